@@ -1,6 +1,6 @@
 -- The documents after changes.
 use Rattle.std.proofs.Common.{◌≡◌, refl, sym, subst, ℕ, List, [], ◌∷◌, ◌++◌, Some, None}
-use Rattle.std.specs.Prelude.{MatchOption, String, ℤ, string_bytes}
+use Rattle.std.specs.Prelude.{MatchOption, Option, String, ℤ, string_bytes}
 use Rattle.std.specs.declared.alloc.Global.{Global}
 use Rattle.wac_positions.specs.declared.place.ColumnUnit.{ColumnUnit}
 use Rattle.wac_lsp_messages.specs.declared.notice.Change.{Change}
@@ -9,7 +9,7 @@ use Rattle.wac_lsp.specs.declared.documents.Document.{Document}
 use Rattle.wac_lsp.specs.Opened.{Makes, Puts, Remakes, others, text_in}
 
 -- a document comes last
-pub put_last : (uri text : String Global) (version : ℤ) (old new : List Document) → new ≡ others (string_bytes uri) old ++ record { uri = uri; version = version; text = text } ∷ [] → Puts (string_bytes uri) (string_bytes text) old new
+pub put_last : (uri text : String Global) (version : Option ℤ) (old new : List Document) → new ≡ others (string_bytes uri) old ++ record { uri = uri; version = version; text = text } ∷ [] → Puts (string_bytes uri) (string_bytes text) old new
 put_last uri text version old new last = record { document = record { uri = uri; version = version; text = text }; named = refl; holds = refl; last = last }
 
 -- the changes are of the text that is found

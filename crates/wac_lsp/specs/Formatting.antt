@@ -1,5 +1,5 @@
 -- What formatting changes.
-use Rattle.std.specs.Prelude.{◌≡◌, ℕ, List, [], ◌⊎◌, Bool, true, false}
+use Rattle.std.specs.Prelude.{◌≡◌, ℕ, List, [], ◌⊎◌, Bool, true, false, max, min, if◌then◌else◌}
 use Rattle.serde_json.specs.View.{view}
 use Rattle.serde_json.specs.declared.value.Value.{Value}
 use Rattle.wac_positions.specs.declared.place.ColumnUnit.{ColumnUnit}
@@ -7,8 +7,11 @@ use Rattle.wac_comments.specs.Errors.{IsErrorOf}
 use Rattle.wac_comments.specs.Tidied.{IsPlain, Kept, SameTree}
 use Rattle.wac_comments.specs.declared.error.TidyError.{TidyError}
 use Rattle.wac_comments.specs.declared.error.TidyError.TheVariants.{Parse, NestedTooDeep, NotKept, Memory}
+use Rattle.wac_comments.specs.declared.options.Indent.{Indent}
+use Rattle.wac_comments.specs.declared.options.Indent.TheVariants.{Blanks, Tab}
 use Rattle.wac_comments.specs.declared.options.Options.{Options}
 use Rattle.wac_lsp_messages.specs.declared.notice.Change.{Change}
+use Rattle.wac_lsp_messages.specs.declared.question.FormattingOptions.{FormattingOptions}
 use Rattle.wac_lsp_texts.specs.Changed.{Changes}
 use Rattle.wac_lsp.specs.Edits.{edits_data}
 
@@ -37,9 +40,14 @@ pub record IsLeft (text : List ℕ) (changes : List Change) : Type 0 where
 abbrev pub LaysOut : ColumnUnit → Options → List ℕ → List Change → Type 0
 LaysOut unit options text changes = MakesTidy unit options text changes ⊎ IsLeft text changes
 
--- the value has the edits that lay out a text
-pub record IsFormatting (unit : ColumnUnit) (text : List ℕ) (value : Value) : Type 0 where
+-- the indent that a client asks for: a tab, or as many blanks as a tab is worth to it, at least 1 and at most 16
+abbrev pub indent_asked : FormattingOptions → Indent
+indent_asked given = if given.insert_spaces then Blanks (max 1 (min 16 given.tab_size)) else Tab
+
+-- the value has the edits that lay out a text as it is asked
+pub record IsFormatting (unit : ColumnUnit) (given : FormattingOptions) (text : List ℕ) (value : Value) : Type 0 where
   pub options : Options
+  pub indent : options.indent ≡ indent_asked given
   pub changes : List Change
   pub has : view value ≡ edits_data changes
   pub lays_out : LaysOut unit options text changes

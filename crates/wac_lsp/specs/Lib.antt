@@ -1,3 +1,4 @@
+pub mod Answers
 pub mod Edits
 pub mod Formatting
 pub mod Opened

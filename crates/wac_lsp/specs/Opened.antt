@@ -49,10 +49,13 @@ Remakes unit uri changes old new =
 abbrev pub Leaves : ColumnUnit → Notice → List Document → List Document → Type 0
 Leaves unit (notices.Opened uri version text) old new = Puts (string_bytes uri) (string_bytes text) old new
 Leaves unit (notices.Changed uri version changes) old new = Remakes unit (string_bytes uri) changes.items old new
+-- of a change that can't be read nothing is known: the text stays
+Leaves unit (notices.Lost uri) old new = Remakes unit (string_bytes uri) [] old new
 Leaves unit (notices.Closed uri) old new = new ≡ others (string_bytes uri) old
 Leaves unit notices.Initialized old new = new ≡ old
 Leaves unit notices.Exit old new = new ≡ old
 Leaves unit notices.FilesChanged old new = new ≡ old
+Leaves unit (notices.FoldersChanged added removed) old new = new ≡ old
 Leaves unit notices.Other old new = new ≡ old
 
 -- the same in each phase: all stay before initialize and after shutdown

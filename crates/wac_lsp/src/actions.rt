@@ -1,4 +1,5 @@
 //! What mends a part of a document.
+use crate::applying::workspace_edit;
 use crate::diagnostics::{diagnostic_value, errors};
 use crate::places::{Part, View};
 use crate::questions::Subject;
@@ -24,16 +25,53 @@ fn is_in(finding: &Finding, part: Part) -> bool {
     }
 }
 
-/// An edit of one document, as a value.
+/// A change that mends a text, and what is said of it.
+#[derive(Clone, Copy)]
+struct Cure<'f> {
+    title: &'f str,
+    span: SourceSpan,
+    text: &'f str,
+}
+
+/// The change that takes a byte order mark away, if that is what was found.
+fn mark_cure(finding: &Finding) -> Option<Cure<'_>> {
+    if finding.diagnostic.code != "wac::byte-order-mark" {
+        return None;
+    }
+    let span = finding.diagnostic.span?;
+    Some(Cure {
+        title: "remove the byte order mark",
+        span,
+        text: "",
+    })
+}
+
+/// The change that mends what was found, if there is one.
+fn cure_of(finding: &Finding) -> Option<Cure<'_>> {
+    let Some(change) = &finding.edit else {
+        return mark_cure(finding);
+    };
+    let Some(title) = &finding.diagnostic.help else {
+        return None;
+    };
+    Some(Cure {
+        title: title.as_str(),
+        span: change.span,
+        text: change.text.as_str(),
+    })
+}
+
+/// A change as an edit of a document.
 fn edit_value(
     alloc: Global,
     view: &View<'_>,
-    uri: &str,
-    span: SourceSpan,
-    text: &str,
+    about: &Subject<'_>,
+    cure: &Cure<'_>,
 ) -> Result<Value, AllocError> {
-    let range = view.span(alloc, span)?;
-    json!(in alloc; {"changes": {(uri): [{"range": range, "newText": text}]}})
+    let range = view.span(alloc, cure.span)?;
+    let text = cure.text;
+    let edits = json!(in alloc; [{"range": range, "newText": text}])?;
+    workspace_edit(alloc, about, edits)
 }
 
 /// The change that mends what was found, as an action.
@@ -43,14 +81,12 @@ fn action_value(
     about: &Subject<'_>,
     finding: &Finding,
 ) -> Result<Option<Value>, AllocError> {
-    let Some(change) = &finding.edit else {
+    let Some(cure) = cure_of(finding) else {
         return Ok(None);
     };
-    let Some(title) = &finding.diagnostic.help else {
-        return Ok(None);
-    };
-    let edit = edit_value(alloc, view, about.uri, change.span, change.text.as_str())?;
+    let edit = edit_value(alloc, view, about, &cure)?;
     let diagnostic = diagnostic_value(alloc, view, about, &finding.diagnostic)?;
+    let title = cure.title;
     let action = json!(in alloc; {
         "title": title,
         "kind": "quickfix",
@@ -79,12 +115,15 @@ fn actions_value(
     Ok(Value::Array(actions))
 }
 
-/// The changes that mend what is wrong in a part of a text.
+/// The changes that mend what is wrong in a part of a text: none for a client that takes commands alone.
 pub(crate) fn actions(
     alloc: Global,
     about: &Subject<'_>,
     range: Range,
 ) -> Result<Value, AllocError> {
+    if !about.features.action_literals {
+        return Ok(Value::Array(Vec::new(alloc)));
+    }
     let text = about.text;
     let unit = about.unit;
     let found = match errors(alloc, text) {

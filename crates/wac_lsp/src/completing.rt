@@ -60,28 +60,55 @@ pub struct Suggestion<'s> {
     pub detail: &'s str,
     /// What it is, by the protocol's number of such completions.
     pub kind: u8,
+    /// Where what it replaces begins, in bytes, if that isn't the beginning of the word before the place.
+    pub start: Option<usize>,
+}
+
+/// Whether a text begins with a word, or does without its `%` or its quote.
+fn begins_with(text: &str, word: &str) -> bool {
+    let bare = text.strip_prefix('%').unwrap_or(text);
+    let bare = bare.strip_prefix('"').unwrap_or(bare);
+    text.starts_with(word) || bare.starts_with(word)
 }
 
 /// The part of a text that completions replace.
 #[derive(Clone, Copy)]
 struct Replaced<'v, 'a> {
+    text: &'a str,
     view: &'v View<'a>,
     start: usize,
     end: usize,
 }
 
+/// What is put behind a text: a blank comes first behind a colon, which would make it the name of a package otherwise,
+/// together with the word before.
+fn put_behind(alloc: Global, front: &str, text: &str) -> Result<String, AllocError> {
+    if front.ends_with(':') {
+        return format!(in alloc; " {text}");
+    }
+    String::from_str(alloc, text)
+}
+
+/// The text between two offsets.
+fn text_between(text: &str, start: usize, end: usize) -> &str {
+    text.get(start..end).unwrap_or("")
+}
+
 impl Replaced<'_, '_> {
-    /// The edit that puts a text there.
-    fn edit(&self, alloc: Global, text: &str) -> Result<Value, AllocError> {
-        let range = self.view.range(alloc, self.start, self.end)?;
-        json!(in alloc; {"range": range, "newText": text})
+    /// The edit that puts a text there, in the place of what begins at an offset. A name of a package is replaced from its
+    /// beginning on, so that no colon is before it.
+    fn edit(&self, alloc: Global, start: usize, text: &str) -> Result<Value, AllocError> {
+        let range = self.view.range(alloc, start, self.end)?;
+        let put = put_behind(alloc, self.text.get(..start).unwrap_or(""), text)?;
+        let new = put.as_str();
+        json!(in alloc; {"range": range, "newText": new})
     }
 
     /// A completion.
     fn item(&self, alloc: Global, completion: &Completion) -> Result<Value, AllocError> {
         let label = completion.label.as_str();
         let kind = kind_of(completion);
-        let edit = self.edit(alloc, label)?;
+        let edit = self.edit(alloc, self.start, label)?;
         json!(in alloc; {"label": label, "kind": kind, "textEdit": edit})
     }
 
@@ -90,11 +117,18 @@ impl Replaced<'_, '_> {
         let label = suggestion.label;
         let detail = suggestion.detail;
         let kind = suggestion.kind;
-        let edit = self.edit(alloc, label)?;
+        let start = suggestion.start.unwrap_or(self.start);
+        let edit = self.edit(alloc, start, label)?;
         json!(in alloc; {"label": label, "kind": kind, "detail": detail, "textEdit": edit})
     }
 
-    /// Adds suggestions.
+    /// Whether a suggestion is one for the word that is there: a client compares what replaces more than that.
+    fn takes(&self, suggestion: &Suggestion<'_>) -> bool {
+        let word = text_between(self.text, self.start, self.end);
+        suggestion.start.is_some() || begins_with(suggestion.label, word)
+    }
+
+    /// Adds the suggestions for the word that is there.
     fn add_suggested(
         &self,
         alloc: Global,
@@ -102,7 +136,9 @@ impl Replaced<'_, '_> {
         suggestions: &[Suggestion<'_>],
     ) -> Result<(), AllocError> {
         for suggestion in suggestions {
-            items.push(self.suggested(alloc, suggestion)?)?;
+            if self.takes(suggestion) {
+                items.push(self.suggested(alloc, suggestion)?)?;
+            }
         }
         Ok(())
     }
@@ -132,7 +168,8 @@ fn items(
     Ok(Value::Array(items))
 }
 
-/// What can stand at a place of a text, each with the edit that replaces the word before the place: suggestions first.
+/// What can stand at a place of a text, each with the edit that replaces the word before the place, or what a suggestion
+/// says: suggestions first, of which those that replace the word begin with it.
 pub(crate) fn completed(
     alloc: Global,
     text: &str,
@@ -147,6 +184,7 @@ pub(crate) fn completed(
     let found = completions_at(alloc, text, end)?;
     let view = View::new(alloc, text, unit)?;
     let replaced = Replaced {
+        text,
         view: &view,
         start: found.start,
         end,

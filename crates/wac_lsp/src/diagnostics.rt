@@ -1,4 +1,5 @@
 //! What is wrong with a document, as a notification.
+use crate::members::put_member;
 use crate::places::View;
 use crate::questions::Subject;
 use serde_json::{Value, json};
@@ -16,6 +17,10 @@ const MOST_BYTES: usize = 1048576;
 
 /// The notification that has the diagnostics of a document.
 const PUBLISH: &str = "textDocument/publishDiagnostics";
+
+/// What is told of a document of which a change was lost.
+const LOST: &str =
+    "a change of this document couldn't be read, so its text isn't known here; close it and open it anew";
 
 /// A diagnostic, alone or with the edit that mends what it says.
 pub(crate) trait HasDiagnostic {
@@ -112,31 +117,25 @@ fn put_description(
 ) -> Result<(), AllocError> {
     let href = href_of(alloc, page, code)?;
     let description = json!(in alloc; {"href": href})?;
-    if let Some(members) = value.as_object_mut() {
-        members.insert(String::from_str(alloc, "codeDescription")?, description)?;
-    }
-    Ok(())
+    put_member(alloc, value, "codeDescription", description)
 }
 
-/// A diagnostic as a value, but for where its code is explained.
+/// A diagnostic as a value, but for what some clients alone take.
 fn plain_value(
     alloc: Global,
     view: &View<'_>,
-    uri: &str,
     diagnostic: &Diagnostic,
 ) -> Result<Value, AllocError> {
     let severity = severity_number(diagnostic.severity);
     let code = diagnostic.code;
     let message = message_of(alloc, diagnostic)?;
     let range = range_of(alloc, view, diagnostic)?;
-    let related = all_related(alloc, view, uri, diagnostic.notes.as_slice())?;
     json!(in alloc; {
         "range": range,
         "severity": severity,
         "code": code,
         "source": "wac",
-        "message": message,
-        "relatedInformation": related
+        "message": message
     })
 }
 
@@ -147,9 +146,16 @@ pub(crate) fn diagnostic_value(
     about: &Subject<'_>,
     diagnostic: &Diagnostic,
 ) -> Result<Value, AllocError> {
-    let mut value = plain_value(alloc, view, about.uri, diagnostic)?;
-    if let Some(page) = about.errors_page {
-        put_description(alloc, &mut value, page, diagnostic.code)?;
+    let mut value = plain_value(alloc, view, diagnostic)?;
+    if about.features.related_information {
+        let related = all_related(alloc, view, about.uri, diagnostic.notes.as_slice())?;
+        put_member(alloc, &mut value, "relatedInformation", related)?;
+    }
+    match about.errors_page {
+        Some(page) if about.features.code_descriptions => {
+            put_description(alloc, &mut value, page, diagnostic.code)?;
+        }
+        _ => {}
     }
     Ok(value)
 }
@@ -168,14 +174,17 @@ fn diagnostics_value<D: HasDiagnostic>(
     Ok(Value::Array(all))
 }
 
-/// The notification that tells the diagnostics of a document.
+/// The notification that tells the diagnostics of a document of this version, or of one that isn't told.
 fn publication_of(
     alloc: Global,
     uri: &str,
-    version: i64,
+    version: Option<i64>,
     diagnostics: Value,
 ) -> Result<String, AllocError> {
-    let params = json!(in alloc; {"uri": uri, "version": version, "diagnostics": diagnostics})?;
+    let mut params = json!(in alloc; {"uri": uri, "diagnostics": diagnostics})?;
+    if let Some(version) = version {
+        put_member(alloc, &mut params, "version", Value::from(version))?;
+    }
     notification(alloc, PUBLISH, params)
 }
 
@@ -183,27 +192,37 @@ fn publication_of(
 pub(crate) fn published_all<D: HasDiagnostic>(
     alloc: Global,
     about: &Subject<'_>,
-    version: i64,
     found: &[D],
 ) -> Result<String, AllocError> {
     let diagnostics = diagnostics_value(alloc, about, found)?;
-    publication_of(alloc, about.uri, version, diagnostics)
+    publication_of(alloc, about.uri, about.version, diagnostics)
 }
 
-/// What is wrong with the text of a document, as a notification.
-pub(crate) fn published(
-    alloc: Global,
-    about: &Subject<'_>,
-    version: i64,
-) -> Result<String, AllocError> {
+/// That a change of a document was lost, as a notification: its text isn't known, so nothing else is told of it.
+pub(crate) fn published_lost(alloc: Global, uri: &str) -> Result<String, AllocError> {
+    let start = json!(in alloc; {"line": 0, "character": 0})?;
+    let end = json!(in alloc; {"line": 0, "character": 0})?;
+    let diagnostics = json!(in alloc; [{
+        "range": {"start": start, "end": end},
+        "severity": 1,
+        "source": "wac",
+        "message": LOST
+    }])?;
+    publication_of(alloc, uri, None, diagnostics)
+}
+
+/// What is wrong with a document, as a notification: with its text, unless a change of it was lost.
+pub(crate) fn published(alloc: Global, about: &Subject<'_>) -> Result<String, AllocError> {
+    if about.version.is_none() {
+        return published_lost(alloc, about.uri);
+    }
     match errors(alloc, about.text) {
-        Ok(found) => published_all(alloc, about, version, found.as_slice()),
+        Ok(found) => published_all(alloc, about, found.as_slice()),
         Err(_) => Err(AllocError),
     }
 }
 
 /// That a document that was closed has no diagnostics.
 pub(crate) fn withdrawn(alloc: Global, uri: &str) -> Result<String, AllocError> {
-    let params = json!(in alloc; {"uri": uri, "diagnostics": []})?;
-    notification(alloc, PUBLISH, params)
+    publication_of(alloc, uri, None, Value::Array(Vec::new(alloc)))
 }

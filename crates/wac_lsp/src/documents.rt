@@ -8,7 +8,9 @@ use std::alloc::AllocError;
 #[derive(Drop)]
 pub struct Document {
     pub(crate) uri: String,
-    pub(crate) version: i64,
+    /// The version of its text: none once a change of it couldn't be read, since the text is another one than the client's
+    /// then.
+    pub(crate) version: Option<i64>,
     pub(crate) text: String,
 }
 
@@ -22,6 +24,11 @@ impl Document {
     pub fn text(&self) -> &str {
         self.text.as_str()
     }
+
+    /// Whether a change of it couldn't be read, so that its text isn't the client's.
+    pub fn is_lost(&self) -> bool {
+        self.version.is_none()
+    }
 }
 
 /// Whether a document has this name.
@@ -31,16 +38,26 @@ fn is_named(document: &Document, uri: &str) -> bool
     document.uri.as_str() == uri
 }
 
-/// The text of an open document.
-pub(crate) fn text_of<'d>(documents: &'d [Document], uri: &str) -> Option<&'d str>
-    ensures { option_map (λ text. text.now) result ≡ text_in uri.now documents.now }
+/// The open document of a name.
+pub(crate) fn document_of<'d>(documents: &'d [Document], uri: &str) -> Option<&'d Document>
+    ensures { option_map (λ document. string_bytes document.now.text) result ≡ text_in uri.now documents.now }
 {
     for document in documents {
         if is_named(document, uri) {
-            return Some(document.text.as_str());
+            return Some(document);
         }
     }
     None
+}
+
+/// The text of the open document of a name.
+pub(crate) fn text_of<'d>(documents: &'d [Document], uri: &str) -> Option<&'d str>
+    ensures { option_map (λ text. text.now) result ≡ text_in uri.now documents.now }
+{
+    match document_of(documents, uri) {
+        Some(document) => Some(document.text.as_str()),
+        None => None,
+    }
 }
 
 /// Takes the document of a name away.

@@ -3,7 +3,7 @@ ghost use Rattle.std.specs.Prelude.{◌≡◌, true, IfOk, IfSome};
 ghost use Rattle.serde_json.specs.View.{view};
 ghost use Rattle.wac_lsp_texts.specs.Changed.{Changes};
 ghost use Rattle.wac_lsp.specs.Edits.{edit_data, edits_data, range_data};
-ghost use Rattle.wac_lsp.specs.Formatting.{IsFormatting, LaysOut};
+ghost use Rattle.wac_lsp.specs.Formatting.{IsFormatting, LaysOut, indent_asked};
 
 use crate::differing::{Run, differing};
 use crate::places::{View, range_value};
@@ -16,7 +16,9 @@ use wac_lsp_texts::{ChangeError, changed};
 use wac_positions::ColumnUnit;
 
 /// What indents a line by one level: at most 16 blanks.
-fn indent_of(given: FormattingOptions) -> Indent {
+fn indent_of(given: FormattingOptions) -> Indent
+    ensures { result ≡ indent_asked given }
+{
     if !given.insert_spaces {
         return Indent::Tab;
     }
@@ -43,7 +45,9 @@ fn line_end_of(text: &str) -> LineEnd {
 }
 
 /// How a text is laid out.
-pub(crate) fn layout_of(given: FormattingOptions, text: &str) -> Options {
+pub(crate) fn layout_of(given: FormattingOptions, text: &str) -> Options
+    ensures { result.indent ≡ indent_asked given }
+{
     Options {
         indent: indent_of(given),
         line_end: line_end_of(text),
@@ -190,7 +194,7 @@ pub(crate) fn formatted(
     given: FormattingOptions,
     unit: ColumnUnit,
 ) -> Result<Answered, AllocError>
-    ensures { IfOk result (λ answered. IfOk answered (λ value. IsFormatting unit text.now value)) }
+    ensures { IfOk result (λ answered. IfOk answered (λ value. IsFormatting unit given text.now value)) }
 {
     match changes_to_tidy(alloc, text, layout_of(given, text), unit)? {
         Some(changes) => Ok(Ok(edits_value(alloc, changes.as_slice())?)),

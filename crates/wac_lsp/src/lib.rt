@@ -7,6 +7,7 @@
 #![tactic(auto)]
 
 mod actions;
+mod applying;
 mod capabilities;
 mod completing;
 mod diagnostics;
@@ -14,8 +15,9 @@ mod differing;
 mod documents;
 mod folding;
 mod formatting;
+mod hovering;
+mod members;
 mod navigation;
-mod outline;
 mod pieces;
 mod places;
 mod questions;

@@ -1,11 +1,12 @@
-//! Where names are bound and used, what is said of them, and the edits that give them another one.
+//! Where names are bound and used, and the edits that give them another one.
+use crate::applying::workspace_edit;
 use crate::places::View;
 use crate::questions::{Answered, Subject};
 use serde_json::{Value, json};
 use std::alloc::{AllocError, Global};
 use wac_lexer::SourceSpan;
 use wac_lsp_messages::{Code, Refusal};
-use wac_lsp_names::{Edit, Occurrences, Stopped, hover_at, occurrences_at, rename};
+use wac_lsp_names::{Edit, Occurrences, Stopped, occurrences_at, rename};
 use wac_lsp_texts::offset_at;
 use wac_names::name_in;
 use wac_positions::{Lines, Place};
@@ -17,7 +18,11 @@ const READ: u8 = 2;
 const WRITE: u8 = 3;
 
 /// The offset of a place.
-fn offset_of(alloc: Global, about: &Subject<'_>, place: Place) -> Result<usize, AllocError> {
+pub(crate) fn offset_of(
+    alloc: Global,
+    about: &Subject<'_>,
+    place: Place,
+) -> Result<usize, AllocError> {
     let lines = Lines::new(alloc, about.text)?;
     Ok(offset_at(&lines, about.text.len(), place, about.unit).unwrap_or(0))
 }
@@ -143,22 +148,6 @@ pub(crate) fn highlights(
     Ok(Value::Array(values))
 }
 
-/// What is said of the name at a place: null where there is none.
-pub(crate) fn hovered(
-    alloc: Global,
-    about: &Subject<'_>,
-    place: Place,
-) -> Result<Value, AllocError> {
-    let offset = offset_of(alloc, about, place)?;
-    let Some(hover) = hover_at(alloc, about.text, offset)? else {
-        return Ok(Value::Null);
-    };
-    let view = View::new(alloc, about.text, about.unit)?;
-    let range = view.span(alloc, hover.at)?;
-    let text = hover.text.as_str();
-    json!(in alloc; {"contents": {"kind": "markdown", "value": text}, "range": range})
-}
-
 /// Which name can be renamed at a place: where it is, and its text without `%`; null where there is none.
 pub(crate) fn prepared(
     alloc: Global,
@@ -189,8 +178,7 @@ fn edit_values(alloc: Global, view: &View<'_>, edits: &[Edit]) -> Result<Vec<Val
 fn changes_value(alloc: Global, about: &Subject<'_>, edits: &[Edit]) -> Result<Value, AllocError> {
     let view = View::new(alloc, about.text, about.unit)?;
     let edits = Value::Array(edit_values(alloc, &view, edits)?);
-    let uri = about.uri;
-    json!(in alloc; {"changes": {(uri): edits}})
+    workspace_edit(alloc, about, edits)
 }
 
 /// The edits that give the name at a place another one, or why there are none.

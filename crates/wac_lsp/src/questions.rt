@@ -1,16 +1,20 @@
 //! What is asked of an open document, and what that gets.
+ghost use Rattle.std.specs.Prelude.{IfOk, Some};
+ghost use Rattle.wac_lsp.specs.Answers.{AnswersQuestion};
+
 use crate::actions::actions;
 use crate::completing::completed;
-use crate::folding::folds;
+use crate::folding::folding_ranges;
 use crate::formatting::formatted;
-use crate::navigation::{definition, highlights, hovered, prepared, references, renamed};
+use crate::hovering::hovered;
+use crate::navigation::{definition, highlights, prepared, references, renamed};
 use crate::ranging::formatted_range;
 use crate::selecting::selections;
 use crate::symbols::symbols;
 use crate::tokens::tokens;
 use serde_json::Value;
 use std::alloc::{AllocError, Global};
-use wac_lsp_messages::{Question, Refusal};
+use wac_lsp_messages::{Features, Question, Refusal};
 use wac_positions::ColumnUnit;
 
 /// What a request gets.
@@ -20,10 +24,12 @@ pub(crate) type Answered = Result<Value, Refusal>;
 #[derive(Clone, Copy)]
 pub(crate) struct Subject<'d> {
     pub(crate) uri: &'d str,
+    /// The version of its text: none where it isn't known.
+    pub(crate) version: Option<i64>,
     pub(crate) text: &'d str,
     pub(crate) unit: ColumnUnit,
-    /// Whether symbols are told within symbols.
-    pub(crate) nests_symbols: bool,
+    /// What the client takes of answers.
+    pub(crate) features: Features,
     /// The URI of the page that explains the codes of errors, if the client named one.
     pub(crate) errors_page: Option<&'d str>,
 }
@@ -41,8 +47,10 @@ pub(crate) fn answer_question(
     alloc: Global,
     about: &Subject<'_>,
     question: &Question,
-) -> Result<Answered, AllocError> {
-    let uri = about.uri;
+) -> Result<Answered, AllocError>
+    ensures { IfOk result (λ answered. IfOk answered
+        (AnswersQuestion about.now.unit (Some about.now.text.now) question.now)) }
+{
     let text = about.text;
     let unit = about.unit;
     match question {
@@ -50,9 +58,9 @@ pub(crate) fn answer_question(
         Question::RangeFormatting(range, options) => {
             formatted_range(alloc, text, *range, *options, unit)
         }
-        Question::Symbols => found(symbols(alloc, uri, text, unit, about.nests_symbols)),
+        Question::Symbols => found(symbols(alloc, about)),
         Question::SemanticTokens => found(tokens(alloc, text, unit)),
-        Question::FoldingRanges => found(folds(alloc, text, unit)),
+        Question::FoldingRanges => found(folding_ranges(alloc, about)),
         Question::SelectionRanges(places) => {
             found(selections(alloc, text, places.as_slice(), unit))
         }

@@ -1,20 +1,22 @@
 //! The state of a server, and what it answers.
 ghost use Rattle.std.specs.Prelude.{◌≡◌, [], ◌∷◌, IfOk, Some, string_bytes};
 ghost use Rattle.wac_lsp_messages.specs.Replying.{IsReplyTo};
+ghost use Rattle.wac_lsp.specs.Answers.{AnswersMessage};
 ghost use Rattle.wac_lsp.specs.Opened.{Holds, LeavesIn};
 ghost use Rattle.wac_lsp.specs.Replies.{AreReplies, replied_to, replies};
 ghost use Rattle.wac_lsp.specs.Steps.{Steps};
+ghost use Rattle.wac_lsp.specs.declared.server.Sent.TheVariants.{Reply};
 
 use crate::capabilities::capabilities;
 use crate::diagnostics::{published, withdrawn};
-use crate::documents::{Document, close, put, text_of};
+use crate::documents::{Document, close, document_of, put, text_of};
 use crate::questions::{Answered, Subject, answer_question};
 use crate::symbols::workspace_symbols;
 use serde_json::{Value, json};
 use std::alloc::{AllocError, Global};
 use wac_lsp_messages::{
-    Call, Change, Code, Id, Initialize, Message, Notice, Question, Refusal, read_message, refused,
-    reply,
+    Call, Change, Code, Features, Id, Initialize, Message, Notice, Question, Refusal, read_message,
+    refused, reply,
 };
 use wac_lsp_texts::{ChangeError, changed};
 use wac_positions::ColumnUnit;
@@ -35,7 +37,8 @@ pub struct Server {
     phase: Phase,
     version: &'static str,
     unit: ColumnUnit,
-    nests_symbols: bool,
+    /// What the client takes of answers.
+    features: Features,
     /// The URI of the page that explains the codes of errors, if the client named one.
     errors_page: Option<String>,
     documents: Vec<Document>,
@@ -48,7 +51,7 @@ impl Drop for Server {
             phase: _,
             version: _,
             unit: _,
-            nests_symbols: _,
+            features: _,
             errors_page: _,
             documents: _,
         } = self;
@@ -109,15 +112,27 @@ const NO_CAPABILITIES: Refusal = Refusal {
     message: "initialize lacks the capabilities of the client",
 };
 
+/// Whether one of some changes brings a whole text.
+fn has_whole_text(changes: &[Change]) -> bool {
+    changes.iter().any(|change| change.range.is_none())
+}
+
 /// A document that isn't open.
 const NOT_OPEN: Refusal = Refusal {
     code: Code::InvalidParams,
     message: "the document is not open",
 };
 
+/// A document whose text isn't known.
+const LOST: Refusal = Refusal {
+    code: Code::RequestFailed,
+    message: "a change of the document couldn't be read; open it anew",
+};
+
 impl Server {
     ghost use Rattle.std.specs.Prelude.{◌≡◌, [], IfOk, MatchOption, None, OnOk, Some, string_bytes};
     ghost use Rattle.wac_lsp_messages.specs.Replying.{IsReplyTo};
+    ghost use Rattle.wac_lsp.specs.Answers.{AnswersCall, AnswersQuestion, AnswersRequest};
     ghost use Rattle.wac_lsp.specs.Opened.{Leaves, Makes, Puts, Remakes, text_in};
     ghost use Rattle.wac_lsp.specs.Replies.{AreReplies, replies};
 
@@ -127,7 +142,7 @@ impl Server {
             phase: Phase::New,
             version,
             unit: ColumnUnit::Utf16,
-            nests_symbols: false,
+            features: Features::none(),
             errors_page: None,
             documents: Vec::new(alloc),
         }
@@ -153,13 +168,17 @@ impl Server {
         self.unit
     }
 
-    /// A document of this name and this text, for what is told of it.
-    pub(crate) fn about<'d>(&'d self, uri: &'d str, text: &'d str) -> Subject<'d> {
+    /// A document, for what is told of it.
+    pub(crate) fn about<'d>(&'d self, document: &'d Document) -> Subject<'d>
+        ensures unit { result.unit ≡ self.now.unit }
+        ensures text { result.text.now ≡ string_bytes document.now.text }
+    {
         Subject {
-            uri,
-            text,
+            uri: document.uri(),
+            version: document.version,
+            text: document.text.as_str(),
             unit: self.unit,
-            nests_symbols: self.nests_symbols,
+            features: self.features,
             errors_page: match &self.errors_page {
                 Some(page) => Some(page.as_str()),
                 None => None,
@@ -172,7 +191,7 @@ impl Server {
         ensures { self.new.documents.items ≡ self.old.documents.items }
     {
         self.phase = Phase::Running;
-        self.nests_symbols = client.nests_symbols;
+        self.features = client.features;
         if let Some(page) = &client.errors_page {
             self.errors_page = Some(String::from_str(alloc, page.as_str())?);
         }
@@ -182,7 +201,7 @@ impl Server {
             ColumnUnit::Utf16
         };
         let version = self.version;
-        let capabilities = capabilities(alloc, client.counts_bytes)?;
+        let capabilities = capabilities(alloc, client.counts_bytes, client.features)?;
         json!(in alloc; {
             "capabilities": capabilities,
             "serverInfo": {"name": "wacx", "version": version}
@@ -195,12 +214,15 @@ impl Server {
         alloc: Global,
         uri: &str,
         question: &Question,
-    ) -> Result<Answered, AllocError> {
-        let Some(text) = text_of(self.documents.as_slice(), uri) else {
-            return Ok(Err(NOT_OPEN));
-        };
-        let about = self.about(uri, text);
-        answer_question(alloc, &about, question)
+    ) -> Result<Answered, AllocError>
+        ensures { IfOk result (λ answered. IfOk answered
+            (AnswersQuestion self.now.unit (text_in uri.now self.now.documents.items) question.now)) }
+    {
+        match document_of(self.documents.as_slice(), uri) {
+            Some(document) if document.is_lost() => Ok(Err(LOST)),
+            Some(document) => answer_question(alloc, &self.about(document), question),
+            None => Ok(Err(NOT_OPEN)),
+        }
     }
 
     /// What open documents declare under names that have a text in them.
@@ -213,7 +235,9 @@ impl Server {
 
     /// What a request gets before initialize.
     fn answer_new(&mut self, alloc: Global, call: &Call) -> Result<Answered, AllocError>
-        ensures { self.new.documents.items ≡ self.old.documents.items }
+        ensures keeps { self.new.documents.items ≡ self.old.documents.items }
+        ensures answers { IfOk result (λ answered. IfOk answered
+            (AnswersCall self.old.unit self.old.documents.items call.now)) }
     {
         match call {
             Call::Initialize(Some(client)) => match self.initialize(alloc, client) {
@@ -227,7 +251,9 @@ impl Server {
 
     /// What a request gets between initialize and shutdown.
     fn answer_running(&mut self, alloc: Global, call: &Call) -> Result<Answered, AllocError>
-        ensures { self.new.documents.items ≡ self.old.documents.items }
+        ensures keeps { self.new.documents.items ≡ self.old.documents.items }
+        ensures answers { IfOk result (λ answered. IfOk answered
+            (AnswersCall self.old.unit self.old.documents.items call.now)) }
     {
         match call {
             Call::Initialize(_) => Ok(Err(NOT_NOW)),
@@ -242,7 +268,9 @@ impl Server {
 
     /// What a request gets.
     fn answer(&mut self, alloc: Global, call: &Call) -> Result<Answered, AllocError>
-        ensures { self.new.documents.items ≡ self.old.documents.items }
+        ensures keeps { self.new.documents.items ≡ self.old.documents.items }
+        ensures answers { IfOk result (λ answered. IfOk answered
+            (AnswersCall self.old.unit self.old.documents.items call.now)) }
     {
         let phase = self.phase;
         match phase {
@@ -269,6 +297,8 @@ impl Server {
         call: Result<Call, Refusal>,
     ) -> Result<String, AllocError>
         ensures written { IfOk result (λ body. IsReplyTo (Some id.now) (string_bytes body)) }
+        ensures replies { IfOk result (λ body.
+            AnswersRequest self.old.unit self.old.documents.items call (string_bytes body)) }
         ensures keeps { self.new.documents.items ≡ self.old.documents.items }
     {
         let answer = match call {
@@ -287,15 +317,16 @@ impl Server {
         &mut self,
         alloc: Global,
         uri: String,
-        version: i64,
+        version: Option<i64>,
         text: String,
     ) -> Result<String, AllocError>
         ensures unit { self.new.unit ≡ self.old.unit }
         ensures puts { OnOk result
             (Puts (string_bytes uri) (string_bytes text) self.old.documents.items self.new.documents.items) }
     {
-        let told = published(alloc, &self.about(uri.as_str(), text.as_str()), version)?;
-        put(&mut self.documents, Document { uri, version, text })?;
+        let document = Document { uri, version, text };
+        let told = published(alloc, &self.about(&document))?;
+        put(&mut self.documents, document)?;
         Ok(told)
     }
 
@@ -319,13 +350,23 @@ impl Server {
         }
     }
 
+    /// The version of a document after changes that lead to this one: none where a change before them was lost and none of
+    /// them brings a whole text.
+    fn version_after(&self, uri: &str, version: i64, changes: &[Change]) -> Option<i64> {
+        if has_whole_text(changes) || self.document(uri).is_some() {
+            Some(version)
+        } else {
+            None
+        }
+    }
+
     /// Changes a document, and tells what is wrong with it. Changes of one that isn't open are passed over.
     #[tactic(auto, using(crate::proofs::Remade::remade, crate::proofs::Remade::none_remade))]
     fn changed(
         &mut self,
         alloc: Global,
         uri: String,
-        version: i64,
+        version: Option<i64>,
         changes: &[Change],
     ) -> Result<Option<String>, ChangeError>
         ensures { IfOk result (λ _.
@@ -345,8 +386,7 @@ impl Server {
     {
         let mut messages = Vec::new(alloc);
         for document in self.documents.as_slice() {
-            let about = self.about(document.uri(), document.text());
-            let body = published(alloc, &about, document.version)?;
+            let body = published(alloc, &self.about(document))?;
             messages.push(Sent::Notification { body })?;
         }
         Ok(Outcome {
@@ -364,17 +404,22 @@ impl Server {
     {
         match notice {
             Notice::Opened { uri, version, text } => {
-                let body = self.opened(alloc, uri, version, text)?;
+                let body = self.opened(alloc, uri, Some(version), text)?;
                 Ok(sends_notification(alloc, body)?)
             }
             Notice::Changed {
                 uri,
                 version,
                 changes,
-            } => match self.changed(alloc, uri, version, changes.as_slice())? {
-                Some(body) => Ok(sends_notification(alloc, body)?),
-                None => Ok(sends_nothing(alloc, None)),
-            },
+            } => {
+                let version = self.version_after(uri.as_str(), version, changes.as_slice());
+                let told = self.changed(alloc, uri, version, changes.as_slice())?;
+                Ok(sends_told(alloc, told)?)
+            }
+            Notice::Lost { uri } => {
+                let told = self.changed(alloc, uri, None, &[])?;
+                Ok(sends_told(alloc, told)?)
+            }
             Notice::Closed { uri } => {
                 close(&mut self.documents, uri.as_str());
                 let body = withdrawn(alloc, uri.as_str())?;
@@ -382,7 +427,10 @@ impl Server {
             }
             Notice::FilesChanged => Ok(self.refreshed(alloc)?),
             Notice::Exit => Ok(sends_nothing(alloc, Some(1))),
-            Notice::Initialized | Notice::Other => Ok(sends_nothing(alloc, None)),
+            // A server by itself knows no folders.
+            Notice::Initialized | Notice::FoldersChanged { .. } | Notice::Other => {
+                Ok(sends_nothing(alloc, None))
+            }
         }
     }
 }
@@ -390,6 +438,7 @@ impl Server {
 /// An outcome in which a reply is sent, and the server goes on.
 pub fn sends_reply(alloc: Global, id: Option<Id>, body: String) -> Result<Outcome, AllocError>
     requires { IsReplyTo id (string_bytes body) }
+    ensures sends { IfOk result (λ outcome. outcome.messages.items ≡ Reply id body ∷ []) }
     ensures ids { IfOk result (λ outcome. replies outcome.messages.items ≡ id ∷ []) }
     ensures written { IfOk result (λ outcome. AreReplies outcome.messages.items) }
 {
@@ -412,6 +461,17 @@ fn sends_notification(alloc: Global, body: String) -> Result<Outcome, AllocError
         messages,
         status: None,
     })
+}
+
+/// An outcome in which what is told is sent as a notification, and the server goes on.
+fn sends_told(alloc: Global, told: Option<String>) -> Result<Outcome, AllocError>
+    ensures ids { IfOk result (λ outcome. replies outcome.messages.items ≡ []) }
+    ensures written { IfOk result (λ outcome. AreReplies outcome.messages.items) }
+{
+    match told {
+        Some(body) => sends_notification(alloc, body),
+        None => Ok(sends_nothing(alloc, None)),
+    }
 }
 
 /// An outcome in which no message is sent.
@@ -454,6 +514,9 @@ pub fn answer(alloc: Global, server: &mut Server, message: Message) -> Result<Ou
     ensures ids { IfOk result (λ outcome. replies outcome.messages.items ≡ replied_to message) }
     // The text of each reply has its id.
     ensures written { IfOk result (λ outcome. AreReplies outcome.messages.items) }
+    // A request for a document's layout gets edits that lay out its text, or an error; what can't be read gets an error.
+    ensures answers { IfOk result (λ outcome.
+        AnswersMessage server.old.unit server.old.documents.items message outcome.messages.items) }
     // The text of a document is that with which it was opened, after all changes that came since.
     ensures holds { IfOk result (λ _.
         Holds server.old.phase server.old.unit message server.old.documents.items server.new.documents.items) }

@@ -1,11 +1,32 @@
 //! What a document declares, as values of the protocol.
 use crate::documents::Document;
-use crate::outline::{Declared, outline};
+use crate::members::put_member;
+use crate::pieces::accepted;
 use crate::places::View;
+use crate::questions::Subject;
 use serde_json::{Value, json};
 use std::alloc::{AllocError, Global};
 use wac_lexer::SourceSpan;
+use wac_lsp_outline::{Kind, Symbol, in_one_line, outline};
 use wac_positions::ColumnUnit;
+
+/// The number of a kind in the protocol.
+fn number_of(kind: Kind) -> u8 {
+    match kind {
+        Kind::World => 2,
+        Kind::Resource => 5,
+        Kind::Method => 6,
+        Kind::Field => 8,
+        Kind::Constructor => 9,
+        Kind::Choice => 10,
+        Kind::Interface => 11,
+        Kind::Function => 12,
+        Kind::Binding => 13,
+        Kind::Case => 22,
+        Kind::Record => 23,
+        Kind::Alias => 26,
+    }
+}
 
 /// The text of a span.
 fn text_of(text: &str, span: SourceSpan) -> &str {
@@ -13,50 +34,66 @@ fn text_of(text: &str, span: SourceSpan) -> &str {
     text.get(span.offset()..end).unwrap_or("")
 }
 
-/// A declaration with those within it.
+/// Adds what is said of a symbol, if something is.
+fn put_detail(
+    alloc: Global,
+    value: &mut Value,
+    text: &str,
+    symbol: &Symbol,
+) -> Result<(), AllocError> {
+    let detail = in_one_line(alloc, text_of(text, symbol.detail))?;
+    if detail.is_empty() {
+        return Ok(());
+    }
+    put_member(alloc, value, "detail", Value::String(detail))
+}
+
+/// A symbol with those within it.
 fn nested(
     alloc: Global,
     view: &View<'_>,
     text: &str,
-    declared: &Declared,
+    symbol: &Symbol,
     children: Vec<Value>,
 ) -> Result<Value, AllocError> {
-    let name = text_of(text, declared.name);
-    let kind = declared.kind;
-    let range = view.range(alloc, declared.start, declared.end)?;
-    let selection = view.span(alloc, declared.name)?;
+    let name = text_of(text, symbol.name);
+    let kind = number_of(symbol.kind);
+    let range = view.range(alloc, symbol.start, symbol.end)?;
+    let selection = view.span(alloc, symbol.name)?;
     let children = Value::Array(children);
-    json!(in alloc; {
+    let mut value = json!(in alloc; {
         "name": name,
         "kind": kind,
         "range": range,
         "selectionRange": selection,
         "children": children
-    })
+    })?;
+    put_detail(alloc, &mut value, text, symbol)?;
+    Ok(value)
 }
 
-/// A declaration alone.
+/// A symbol alone.
 fn flat(
     alloc: Global,
     view: &View<'_>,
     uri: &str,
     text: &str,
-    declared: &Declared,
+    symbol: &Symbol,
 ) -> Result<Value, AllocError> {
-    let name = text_of(text, declared.name);
-    let kind = declared.kind;
-    let range = view.range(alloc, declared.start, declared.end)?;
+    let name = text_of(text, symbol.name);
+    let kind = number_of(symbol.kind);
+    let range = view.range(alloc, symbol.start, symbol.end)?;
     json!(in alloc; {"name": name, "kind": kind, "location": {"uri": uri, "range": range}})
 }
 
-/// A declaration that was turned into a value, with how many are around it.
+/// A symbol that was turned into a value, with how many are around it.
 #[derive(Drop)]
 struct Made {
     value: Value,
     depth: usize,
 }
 
-/// Takes the declarations on top that have so many around them or more.
+/// Takes the symbols on top that have so many around them or more.
 fn take_deeper(
     alloc: Global,
     made: &mut Vec<Made>,
@@ -75,53 +112,48 @@ fn take_deeper(
     Ok(taken)
 }
 
-/// Declarations, each with those within it. They are gone through from the last to the first: those within one come right
+/// Symbols, each with those within it. They are gone through from the last to the first: those within one come right
 /// after it, and were turned into values before.
 fn all_nested(
     alloc: Global,
     view: &View<'_>,
     text: &str,
-    all: &[Declared],
+    all: &[Symbol],
 ) -> Result<Vec<Value>, AllocError> {
     let mut made = Vec::new(alloc);
-    for declared in all.iter().rev() {
-        let depth = declared.depth;
+    for symbol in all.iter().rev() {
+        let depth = symbol.depth;
         let children = take_deeper(alloc, &mut made, depth.saturating_add(1))?;
-        let value = nested(alloc, view, text, declared, children)?;
+        let value = nested(alloc, view, text, symbol, children)?;
         made.push(Made { value, depth })?;
     }
     take_deeper(alloc, &mut made, 0)
 }
 
-/// Declarations in a list, without those within them.
+/// Symbols in a list, without those within them.
 fn all_flat(
     alloc: Global,
     view: &View<'_>,
     uri: &str,
     text: &str,
-    all: &[Declared],
+    all: &[Symbol],
 ) -> Result<Vec<Value>, AllocError> {
     let mut values = Vec::new(alloc);
-    for declared in all {
-        values.push(flat(alloc, view, uri, text, declared)?)?;
+    for symbol in all {
+        values.push(flat(alloc, view, uri, text, symbol)?)?;
     }
     Ok(values)
 }
 
-/// What a text declares.
-pub(crate) fn symbols(
-    alloc: Global,
-    uri: &str,
-    text: &str,
-    unit: ColumnUnit,
-    nests: bool,
-) -> Result<Value, AllocError> {
-    let all = outline(alloc, text)?;
-    let view = View::new(alloc, text, unit)?;
-    let values = if nests {
+/// What a text declares up to its first rejected character: symbols within symbols, for a client that takes these.
+pub(crate) fn symbols(alloc: Global, about: &Subject<'_>) -> Result<Value, AllocError> {
+    let text = about.text;
+    let all = outline(alloc, accepted(text))?;
+    let view = View::new(alloc, text, about.unit)?;
+    let values = if about.features.nested_symbols {
         all_nested(alloc, &view, text, all.as_slice())?
     } else {
-        all_flat(alloc, &view, uri, text, all.as_slice())?
+        all_flat(alloc, &view, about.uri, text, all.as_slice())?
     };
     Ok(Value::Array(values))
 }
@@ -136,10 +168,10 @@ fn add_named(
 ) -> Result<(), AllocError> {
     let text = document.text.as_str();
     let view = View::new(alloc, text, unit)?;
-    let all = outline(alloc, text)?;
-    for declared in all.as_slice() {
-        if text_of(text, declared.name).contains(query) {
-            let value = flat(alloc, &view, document.uri.as_str(), text, declared)?;
+    let all = outline(alloc, accepted(text))?;
+    for symbol in all.as_slice() {
+        if text_of(text, symbol.name).contains(query) {
+            let value = flat(alloc, &view, document.uri.as_str(), text, symbol)?;
             if values.push(value).is_err() {
                 return Err(AllocError);
             }
@@ -157,6 +189,9 @@ pub(crate) fn workspace_symbols(
 ) -> Result<Value, AllocError> {
     let mut values = Vec::new(alloc);
     for document in documents {
+        if document.is_lost() {
+            continue;
+        }
         add_named(alloc, document, query, unit, &mut values)?;
     }
     Ok(Value::Array(values))

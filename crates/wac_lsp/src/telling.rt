@@ -1,7 +1,7 @@
 //! What a caller that knows more than the open documents tells of them.
 use crate::completing::{Suggestion, completed};
-use crate::diagnostics::{errors, published_all};
-use crate::documents::Document;
+use crate::diagnostics::{errors, published_all, published_lost};
+use crate::documents::{Document, document_of};
 use crate::navigation::location;
 use crate::places::View;
 use crate::server::Server;
@@ -13,30 +13,29 @@ use wac_lsp_texts::offset_at;
 use wac_positions::{Lines, Place};
 
 impl Server {
-    /// The open document of a name.
+    /// The open document of a name, unless a change of it was lost.
     pub fn document(&self, uri: &str) -> Option<&Document> {
-        for document in self.documents() {
-            if document.uri() == uri {
-                return Some(document);
-            }
+        match document_of(self.documents(), uri) {
+            Some(document) if !document.is_lost() => Some(document),
+            _ => None,
         }
-        None
     }
 
     /// The notification that has the diagnostics of an open document: those of its text alone, or where it has none of
-    /// these, others.
+    /// these, others; or that a change of it was lost.
     pub fn publication(
         &self,
         alloc: Global,
         document: &Document,
         others: &[Diagnostic],
     ) -> Result<String, AllocError> {
-        let about = self.about(document.uri(), document.text());
+        if document.is_lost() {
+            return published_lost(alloc, document.uri());
+        }
+        let about = self.about(document);
         match errors(alloc, about.text) {
-            Ok(found) if found.is_empty() => {
-                published_all(alloc, &about, document.version, others)
-            }
-            Ok(found) => published_all(alloc, &about, document.version, found.as_slice()),
+            Ok(found) if found.is_empty() => published_all(alloc, &about, others),
+            Ok(found) => published_all(alloc, &about, found.as_slice()),
             Err(_) => Err(AllocError),
         }
     }

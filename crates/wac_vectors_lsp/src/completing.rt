@@ -12,11 +12,11 @@ const INITIALIZE: &str =
     "{\"id\":0,\"jsonrpc\":\"2.0\",\"method\":\"initialize\",\"params\":{\"capabilities\":{},\"processId\":null}}";
 
 /// A text as JSON, a place in it, its line and its column, and what can stand there: a label, the number of its kind,
-/// and the columns between which it comes in the place of what is there.
+/// the columns between which it comes in the place of what is there, and a sign where a blank comes first.
 type Row = (&'static str, usize, usize, &'static str);
 
 /// Keywords, symbols and names at places.
-static ROWS: [Row; 12] = [
+static ROWS: [Row; 17] = [
     ("package a:b;\\nle", 1, 2, "let 14 0-2"),
     ("package a:b;\\nle", 1, 99, "let 14 0-2"),
     ("package a:b;\\nlex x", 1, 2, "let 14 0-2"),
@@ -57,6 +57,26 @@ static ROWS: [Row; 12] = [
         "i 8 10-11, interface 14 10-11",
     ),
     ("package a:b;\\n/* \u{1f600} */ le", 1, 11, "let 14 9-11"),
+    (
+        "package a:b;\\nimport x:",
+        1,
+        9,
+        "func 14 9-9 +, interface 14 9-9 +, async 14 9-9 +",
+    ),
+    ("package a:b;\\nimport x:fu: y;", 1, 11, "func 14 9-11 +"),
+    (
+        "package a:b;\\nimport x: func(a:u3",
+        1,
+        19,
+        "u32 14 17-19 +",
+    ),
+    ("package a:b;\\nrecord r { x:li", 1, 15, "list 14 13-15 +"),
+    (
+        "package a:b;\\nimport log: func();\\nlet x = new c:d { log:",
+        2,
+        22,
+        "log 6 22-22 +, new 14 22-22 +, ( 24 22-22 +",
+    ),
     ("package a:b;\\n// l", 1, 4, ""),
     ("package a:b;\\nlet let le", 1, 10, ""),
 ];
@@ -69,12 +89,16 @@ fn items(alloc: Global, line: usize, row: &str) -> Result<String, AllocError> {
             return Ok(all);
         };
         let (kind, columns) = rest.split_once(' ').unwrap_or((rest, ""));
+        let (columns, blank) = match columns.strip_suffix(" +") {
+            Some(columns) => (columns, " "),
+            None => (columns, ""),
+        };
         let (start, end) = columns.split_once('-').unwrap_or((columns, columns));
         if !all.is_empty() {
             all.push(',')?;
         }
         let written = format!(in alloc;
-            "{{\"kind\":{kind},\"label\":\"{label}\",\"textEdit\":{{\"newText\":\"{label}\",\"range\":{{\"end\":{{\"character\":{end},\"line\":{line}}},\"start\":{{\"character\":{start},\"line\":{line}}}}}}}}}"
+            "{{\"kind\":{kind},\"label\":\"{label}\",\"textEdit\":{{\"newText\":\"{blank}{label}\",\"range\":{{\"end\":{{\"character\":{end},\"line\":{line}}},\"start\":{{\"character\":{start},\"line\":{line}}}}}}}}}"
         )?;
         all.push_str(written.as_str())?;
     }

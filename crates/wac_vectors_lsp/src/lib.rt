@@ -9,6 +9,8 @@ mod completing;
 #[cfg(test)]
 mod frames;
 #[cfg(test)]
+mod hovers;
+#[cfg(test)]
 mod messages;
 #[cfg(test)]
 mod navigation;

@@ -3,7 +3,9 @@
 use std::alloc::{AllocError, Global};
 use std::process::Abort;
 use std::test::Fail;
-use wac_lsp_messages::{Call, Change, Id, Initialize, Message, Notice, Question, read_message};
+use wac_lsp_messages::{
+    Call, Change, Features, Id, Initialize, Markup, Message, Notice, Question, read_message,
+};
 use wac_positions::Place;
 
 /// A body, and the message in words.
@@ -47,7 +49,7 @@ static WRONG: [Row; 15] = [
 ];
 
 /// Requests, and those that are refused.
-static REQUESTS: [Row; 44] = [
+static REQUESTS: [Row; 50] = [
     (
         "{\"id\":8,\"method\":\"textDocument/definition\",\"params\":{\"textDocument\":{\"uri\":\"x\"},\"position\":{\"line\":2,\"character\":7}}}",
         "request 8 definition x 2 7",
@@ -110,11 +112,11 @@ static REQUESTS: [Row; 44] = [
     ),
     (
         "{\"id\":1,\"method\":\"initialize\",\"params\":{\"processId\":17,\"capabilities\":{}}}",
-        "request 1 initialize 17 utf-16 flat -",
+        "request 1 initialize 17 utf-16 plain -",
     ),
     (
         "{\"id\":1,\"method\":\"initialize\",\"params\":{\"processId\":null,\"capabilities\":{\"general\":{\"positionEncodings\":[\"utf-32\",\"utf-8\",\"utf-16\"]}}}}",
-        "request 1 initialize - utf-8 flat -",
+        "request 1 initialize - utf-8 plain -",
     ),
     (
         "{\"id\":1,\"method\":\"initialize\",\"params\":{\"processId\":null,\"capabilities\":{\"general\":{\"positionEncodings\":[\"utf-16\",\"utf-8\"]},\"textDocument\":{\"documentSymbol\":{\"hierarchicalDocumentSymbolSupport\":true}}}}}",
@@ -122,19 +124,43 @@ static REQUESTS: [Row; 44] = [
     ),
     (
         "{\"id\":1,\"method\":\"initialize\",\"params\":{\"processId\":null,\"capabilities\":{\"general\":{\"positionEncodings\":[\"utf-32\"]}}}}",
-        "request 1 initialize - utf-16 flat -",
+        "request 1 initialize - utf-16 plain -",
     ),
     (
         "{\"id\":1,\"method\":\"initialize\",\"params\":{\"capabilities\":{},\"initializationOptions\":{\"errorsPage\":\"https://e.org/e\"}}}",
-        "request 1 initialize - utf-16 flat https://e.org/e",
+        "request 1 initialize - utf-16 plain https://e.org/e",
+    ),
+    (
+        "{\"id\":1,\"method\":\"initialize\",\"params\":{\"capabilities\":{\"textDocument\":{\"hover\":{\"contentFormat\":[\"html\",\"markdown\",\"plaintext\"]}}}}}",
+        "request 1 initialize - utf-16 markdown -",
+    ),
+    (
+        "{\"id\":1,\"method\":\"initialize\",\"params\":{\"capabilities\":{\"textDocument\":{\"hover\":{\"contentFormat\":[3,\"plaintext\",\"markdown\"]}}}}}",
+        "request 1 initialize - utf-16 plain -",
+    ),
+    (
+        "{\"id\":1,\"method\":\"initialize\",\"params\":{\"capabilities\":{\"textDocument\":{\"hover\":{\"contentFormat\":\"markdown\"}}}}}",
+        "request 1 initialize - utf-16 plain -",
     ),
     (
         "{\"id\":1,\"method\":\"initialize\",\"params\":{\"capabilities\":{},\"initializationOptions\":{\"errorsPage\":7}}}",
-        "request 1 initialize - utf-16 flat -",
+        "request 1 initialize - utf-16 plain -",
     ),
     (
         "{\"id\":1,\"method\":\"initialize\",\"params\":{\"capabilities\":{},\"initializationOptions\":{\"errorsPage\":\"\"}}}",
-        "request 1 initialize - utf-16 flat -",
+        "request 1 initialize - utf-16 plain -",
+    ),
+    (
+        "{\"id\":1,\"method\":\"initialize\",\"params\":{\"capabilities\":{\"textDocument\":{\"documentSymbol\":{\"hierarchicalDocumentSymbolSupport\":true},\"publishDiagnostics\":{\"relatedInformation\":true}},\"workspace\":{\"workspaceEdit\":{\"documentChanges\":true}}}}}",
+        "request 1 initialize - utf-16 nested+versions+related -",
+    ),
+    (
+        "{\"id\":1,\"method\":\"initialize\",\"params\":{\"capabilities\":{\"textDocument\":{\"codeAction\":{\"codeActionLiteralSupport\":{\"codeActionKind\":{\"valueSet\":[]}}},\"foldingRange\":{\"lineFoldingOnly\":true},\"publishDiagnostics\":{\"codeDescriptionSupport\":true},\"rename\":{\"prepareSupport\":true}}}}}",
+        "request 1 initialize - utf-16 actions+lines+pages+prepares -",
+    ),
+    (
+        "{\"id\":1,\"method\":\"initialize\",\"params\":{\"capabilities\":{\"textDocument\":{\"codeAction\":{\"codeActionLiteralSupport\":true},\"foldingRange\":{\"lineFoldingOnly\":false},\"publishDiagnostics\":{\"codeDescriptionSupport\":1},\"rename\":[]},\"workspace\":{\"workspaceEdit\":null}}}}",
+        "request 1 initialize - utf-16 plain -",
     ),
     (
         "{\"id\":1,\"method\":\"initialize\"}",
@@ -227,7 +253,7 @@ static REQUESTS: [Row; 44] = [
 ];
 
 /// Notifications, and those that lack something.
-static NOTIFICATIONS: [Row; 14] = [
+static NOTIFICATIONS: [Row; 22] = [
     ("{\"method\":\"initialized\",\"params\":{}}", "initialized"),
     ("{\"method\":\"exit\"}", "exit"),
     (
@@ -268,15 +294,47 @@ static NOTIFICATIONS: [Row; 14] = [
     ),
     (
         "{\"method\":\"textDocument/didChange\",\"params\":{\"textDocument\":{\"uri\":\"x\",\"version\":2},\"contentChanges\":[{\"range\":{\"start\":{\"line\":-1,\"character\":1},\"end\":{\"line\":2,\"character\":3}},\"text\":\"\"}]}}",
-        "other",
+        "lost x",
     ),
     (
         "{\"method\":\"textDocument/didChange\",\"params\":{\"textDocument\":{\"uri\":\"x\",\"version\":2}}}",
+        "lost x",
+    ),
+    (
+        "{\"method\":\"textDocument/didChange\",\"params\":{\"textDocument\":{\"uri\":\"x\",\"version\":\"2\"},\"contentChanges\":[]}}",
+        "lost x",
+    ),
+    (
+        "{\"method\":\"textDocument/didChange\",\"params\":{\"textDocument\":{\"uri\":\"x\",\"version\":2},\"contentChanges\":[{\"text\":\"a\"},{\"text\":3}]}}",
+        "lost x",
+    ),
+    (
+        "{\"method\":\"textDocument/didChange\",\"params\":{\"textDocument\":{\"version\":2},\"contentChanges\":[]}}",
         "other",
     ),
     (
         "{\"method\":\"textDocument/didClose\",\"params\":{\"textDocument\":{\"uri\":\"x\"}}}",
         "closed x",
+    ),
+    (
+        "{\"method\":\"workspace/didChangeWorkspaceFolders\",\"params\":{\"event\":{\"added\":[{\"name\":\"p\",\"uri\":\"file:///p\"}],\"removed\":[{\"name\":\"q\",\"uri\":\"file:///q\"},{\"name\":\"r\",\"uri\":\"file:///r\"}]}}}",
+        "folders +file:///p -file:///q -file:///r",
+    ),
+    (
+        "{\"method\":\"workspace/didChangeWorkspaceFolders\",\"params\":{\"event\":{\"added\":[],\"removed\":[]}}}",
+        "folders",
+    ),
+    (
+        "{\"method\":\"workspace/didChangeWorkspaceFolders\",\"params\":{\"event\":{\"added\":[{\"name\":\"p\",\"uri\":\"file:///p\"}]}}}",
+        "other",
+    ),
+    (
+        "{\"method\":\"workspace/didChangeWorkspaceFolders\",\"params\":{\"event\":{\"added\":[{\"name\":\"p\",\"uri\":3}],\"removed\":[]}}}",
+        "other",
+    ),
+    (
+        "{\"method\":\"workspace/didChangeWorkspaceFolders\",\"params\":{\"added\":[],\"removed\":[]}}",
+        "other",
     ),
 ];
 
@@ -288,6 +346,33 @@ fn id_words(alloc: Global, id: &Id) -> Result<String, AllocError> {
     }
 }
 
+/// What a client takes of answers, in words.
+fn feature_words(alloc: Global, found: Features) -> Result<String, AllocError> {
+    let all = [
+        (found.nested_symbols, "nested"),
+        (found.versioned_edits, "versions"),
+        (found.action_literals, "actions"),
+        (found.folds_lines, "lines"),
+        (found.related_information, "related"),
+        (found.code_descriptions, "pages"),
+        (found.prepared_renames, "prepares"),
+        (found.hover_markup == Markup::Markdown, "markdown"),
+    ];
+    let mut words = String::new(alloc);
+    for (is_there, word) in &all {
+        if *is_there {
+            if !words.is_empty() {
+                words.push('+')?;
+            }
+            words.push_str(*word)?;
+        }
+    }
+    if words.is_empty() {
+        words.push_str("plain")?;
+    }
+    Ok(words)
+}
+
 /// What a client says of itself, in words.
 fn initialize_words(alloc: Global, found: &Initialize) -> Result<String, AllocError> {
     let encoding = if found.counts_bytes {
@@ -295,18 +380,14 @@ fn initialize_words(alloc: Global, found: &Initialize) -> Result<String, AllocEr
     } else {
         "utf-16"
     };
-    let symbols = if found.nests_symbols {
-        "nested"
-    } else {
-        "flat"
-    };
+    let features = feature_words(alloc, found.features)?;
     let page = match &found.errors_page {
         Some(page) => page.as_str(),
         None => "-",
     };
     match found.process_id {
-        Some(process) => format!(in alloc; "initialize {process} {encoding} {symbols} {page}"),
-        None => format!(in alloc; "initialize - {encoding} {symbols} {page}"),
+        Some(process) => format!(in alloc; "initialize {process} {encoding} {features} {page}"),
+        None => format!(in alloc; "initialize - {encoding} {features} {page}"),
     }
 }
 
@@ -393,12 +474,25 @@ fn change_words(alloc: Global, change: &Change) -> Result<String, AllocError> {
     }
 }
 
+/// The folders that were opened and closed, in words.
+fn folder_words(alloc: Global, added: &[String], removed: &[String]) -> Result<String, AllocError> {
+    let mut words = String::from_str(alloc, "folders")?;
+    for uri in added {
+        words.push_str(format!(in alloc; " +{uri}")?.as_str())?;
+    }
+    for uri in removed {
+        words.push_str(format!(in alloc; " -{uri}")?.as_str())?;
+    }
+    Ok(words)
+}
+
 /// A notification in words.
 fn notice_words(alloc: Global, notice: &Notice) -> Result<String, AllocError> {
     match notice {
         Notice::Initialized => String::from_str(alloc, "initialized"),
         Notice::Exit => String::from_str(alloc, "exit"),
         Notice::FilesChanged => String::from_str(alloc, "files changed"),
+        Notice::FoldersChanged { added, removed } => folder_words(alloc, added, removed),
         Notice::Opened { uri, version, text } => {
             format!(in alloc; "opened {uri} {version} \"{text}\"")
         }
@@ -413,6 +507,7 @@ fn notice_words(alloc: Global, notice: &Notice) -> Result<String, AllocError> {
             }
             Ok(words)
         }
+        Notice::Lost { uri } => format!(in alloc; "lost {uri}"),
         Notice::Closed { uri } => format!(in alloc; "closed {uri}"),
         Notice::Other => String::from_str(alloc, "other"),
     }

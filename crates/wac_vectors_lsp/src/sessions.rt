@@ -36,11 +36,11 @@ static BEGINNING: [Row; 15] = [
         "{\"error\":{\"code\":-32602,\"message\":\"initialize lacks the capabilities of the client\"},\"id\":3,\"jsonrpc\":\"2.0\"}",
     ),
     (
-        "{\"id\":4,\"jsonrpc\":\"2.0\",\"method\":\"initialize\",\"params\":{\"capabilities\":{\"textDocument\":{\"documentSymbol\":{\"hierarchicalDocumentSymbolSupport\":true}}},\"processId\":null}}",
-        "{\"id\":4,\"jsonrpc\":\"2.0\",\"result\":{\"capabilities\":{\"codeActionProvider\":{\"codeActionKinds\":[\"quickfix\"]},\"completionProvider\":{\"triggerCharacters\":[\".\",\"{\",\":\",\"/\",\"\\\"\"]},\"definitionProvider\":true,\"documentFormattingProvider\":true,\"documentHighlightProvider\":true,\"documentRangeFormattingProvider\":true,\"documentSymbolProvider\":true,\"foldingRangeProvider\":true,\"hoverProvider\":true,\"positionEncoding\":\"utf-16\",\"referencesProvider\":true,\"renameProvider\":{\"prepareProvider\":true},\"selectionRangeProvider\":true,\"semanticTokensProvider\":{\"full\":true,\"legend\":{\"tokenModifiers\":[],\"tokenTypes\":[\"keyword\",\"type\",\"string\",\"comment\",\"operator\",\"variable\",\"namespace\"]}},\"textDocumentSync\":{\"change\":2,\"openClose\":true},\"workspaceSymbolProvider\":true},\"serverInfo\":{\"name\":\"wacx\",\"version\":\"1.2.3\"}}}",
+        "{\"id\":4,\"jsonrpc\":\"2.0\",\"method\":\"initialize\",\"params\":{\"capabilities\":{\"textDocument\":{\"codeAction\":{\"codeActionLiteralSupport\":{\"codeActionKind\":{\"valueSet\":[\"quickfix\"]}}},\"documentSymbol\":{\"hierarchicalDocumentSymbolSupport\":true},\"foldingRange\":{\"lineFoldingOnly\":true},\"publishDiagnostics\":{\"codeDescriptionSupport\":true,\"relatedInformation\":true},\"rename\":{\"prepareSupport\":true}}},\"processId\":null}}",
+        "{\"id\":4,\"jsonrpc\":\"2.0\",\"result\":{\"capabilities\":{\"codeActionProvider\":{\"codeActionKinds\":[\"quickfix\"]},\"completionProvider\":{\"triggerCharacters\":[\".\",\"{\",\":\",\"/\",\"\\\"\"]},\"definitionProvider\":true,\"documentFormattingProvider\":true,\"documentHighlightProvider\":true,\"documentRangeFormattingProvider\":true,\"documentSymbolProvider\":true,\"foldingRangeProvider\":true,\"hoverProvider\":true,\"positionEncoding\":\"utf-16\",\"referencesProvider\":true,\"renameProvider\":{\"prepareProvider\":true},\"selectionRangeProvider\":true,\"semanticTokensProvider\":{\"full\":true,\"legend\":{\"tokenModifiers\":[],\"tokenTypes\":[\"keyword\",\"type\",\"string\",\"comment\",\"operator\",\"variable\",\"namespace\"]}},\"textDocumentSync\":{\"change\":2,\"openClose\":true},\"workspace\":{\"workspaceFolders\":{\"changeNotifications\":true,\"supported\":true}},\"workspaceSymbolProvider\":true},\"serverInfo\":{\"name\":\"wacx\",\"version\":\"1.2.3\"}}}",
     ),
     (
-        "{\"id\":5,\"jsonrpc\":\"2.0\",\"method\":\"initialize\",\"params\":{\"capabilities\":{\"textDocument\":{\"documentSymbol\":{\"hierarchicalDocumentSymbolSupport\":true}}},\"processId\":null}}",
+        "{\"id\":5,\"jsonrpc\":\"2.0\",\"method\":\"initialize\",\"params\":{\"capabilities\":{\"textDocument\":{\"codeAction\":{\"codeActionLiteralSupport\":{\"codeActionKind\":{\"valueSet\":[\"quickfix\"]}}},\"documentSymbol\":{\"hierarchicalDocumentSymbolSupport\":true},\"foldingRange\":{\"lineFoldingOnly\":true},\"publishDiagnostics\":{\"codeDescriptionSupport\":true,\"relatedInformation\":true},\"rename\":{\"prepareSupport\":true}}},\"processId\":null}}",
         "{\"error\":{\"code\":-32600,\"message\":\"the server doesn't take this request now\"},\"id\":5,\"jsonrpc\":\"2.0\"}",
     ),
     (
@@ -73,8 +73,8 @@ static BEGINNING: [Row; 15] = [
 /// A document is opened, changed, asked about and closed.
 static DOCUMENT: [Row; 21] = [
     (
-        "{\"id\":1,\"jsonrpc\":\"2.0\",\"method\":\"initialize\",\"params\":{\"capabilities\":{\"textDocument\":{\"documentSymbol\":{\"hierarchicalDocumentSymbolSupport\":true}}},\"processId\":null}}",
-        "{\"id\":1,\"jsonrpc\":\"2.0\",\"result\":{\"capabilities\":{\"codeActionProvider\":{\"codeActionKinds\":[\"quickfix\"]},\"completionProvider\":{\"triggerCharacters\":[\".\",\"{\",\":\",\"/\",\"\\\"\"]},\"definitionProvider\":true,\"documentFormattingProvider\":true,\"documentHighlightProvider\":true,\"documentRangeFormattingProvider\":true,\"documentSymbolProvider\":true,\"foldingRangeProvider\":true,\"hoverProvider\":true,\"positionEncoding\":\"utf-16\",\"referencesProvider\":true,\"renameProvider\":{\"prepareProvider\":true},\"selectionRangeProvider\":true,\"semanticTokensProvider\":{\"full\":true,\"legend\":{\"tokenModifiers\":[],\"tokenTypes\":[\"keyword\",\"type\",\"string\",\"comment\",\"operator\",\"variable\",\"namespace\"]}},\"textDocumentSync\":{\"change\":2,\"openClose\":true},\"workspaceSymbolProvider\":true},\"serverInfo\":{\"name\":\"wacx\",\"version\":\"1.2.3\"}}}",
+        "{\"id\":1,\"jsonrpc\":\"2.0\",\"method\":\"initialize\",\"params\":{\"capabilities\":{\"textDocument\":{\"codeAction\":{\"codeActionLiteralSupport\":{\"codeActionKind\":{\"valueSet\":[\"quickfix\"]}}},\"documentSymbol\":{\"hierarchicalDocumentSymbolSupport\":true},\"foldingRange\":{\"lineFoldingOnly\":true},\"publishDiagnostics\":{\"codeDescriptionSupport\":true,\"relatedInformation\":true},\"rename\":{\"prepareSupport\":true}}},\"processId\":null}}",
+        "{\"id\":1,\"jsonrpc\":\"2.0\",\"result\":{\"capabilities\":{\"codeActionProvider\":{\"codeActionKinds\":[\"quickfix\"]},\"completionProvider\":{\"triggerCharacters\":[\".\",\"{\",\":\",\"/\",\"\\\"\"]},\"definitionProvider\":true,\"documentFormattingProvider\":true,\"documentHighlightProvider\":true,\"documentRangeFormattingProvider\":true,\"documentSymbolProvider\":true,\"foldingRangeProvider\":true,\"hoverProvider\":true,\"positionEncoding\":\"utf-16\",\"referencesProvider\":true,\"renameProvider\":{\"prepareProvider\":true},\"selectionRangeProvider\":true,\"semanticTokensProvider\":{\"full\":true,\"legend\":{\"tokenModifiers\":[],\"tokenTypes\":[\"keyword\",\"type\",\"string\",\"comment\",\"operator\",\"variable\",\"namespace\"]}},\"textDocumentSync\":{\"change\":2,\"openClose\":true},\"workspace\":{\"workspaceFolders\":{\"changeNotifications\":true,\"supported\":true}},\"workspaceSymbolProvider\":true},\"serverInfo\":{\"name\":\"wacx\",\"version\":\"1.2.3\"}}}",
     ),
     (
         "{\"jsonrpc\":\"2.0\",\"method\":\"textDocument/didOpen\",\"params\":{\"textDocument\":{\"languageId\":\"wac\",\"text\":\"package a:b;\\nlte x = y;\\n\",\"uri\":\"file:///project/a%20b.wac\",\"version\":1}}}",
@@ -106,7 +106,7 @@ static DOCUMENT: [Row; 21] = [
     ),
     (
         "{\"id\":3,\"jsonrpc\":\"2.0\",\"method\":\"textDocument/documentSymbol\",\"params\":{\"textDocument\":{\"uri\":\"file:///project/a%20b.wac\"}}}",
-        "{\"id\":3,\"jsonrpc\":\"2.0\",\"result\":[{\"children\":[],\"kind\":13,\"name\":\"y\",\"range\":{\"end\":{\"character\":26,\"line\":1},\"start\":{\"character\":8,\"line\":1}},\"selectionRange\":{\"end\":{\"character\":16,\"line\":1},\"start\":{\"character\":15,\"line\":1}}},{\"children\":[],\"kind\":13,\"name\":\"x\",\"range\":{\"end\":{\"character\":10,\"line\":2},\"start\":{\"character\":0,\"line\":2}},\"selectionRange\":{\"end\":{\"character\":5,\"line\":2},\"start\":{\"character\":4,\"line\":2}}}]}",
+        "{\"id\":3,\"jsonrpc\":\"2.0\",\"result\":[{\"children\":[],\"detail\":\"func()\",\"kind\":13,\"name\":\"y\",\"range\":{\"end\":{\"character\":26,\"line\":1},\"start\":{\"character\":8,\"line\":1}},\"selectionRange\":{\"end\":{\"character\":16,\"line\":1},\"start\":{\"character\":15,\"line\":1}}},{\"children\":[],\"detail\":\"y\",\"kind\":13,\"name\":\"x\",\"range\":{\"end\":{\"character\":10,\"line\":2},\"start\":{\"character\":0,\"line\":2}},\"selectionRange\":{\"end\":{\"character\":5,\"line\":2},\"start\":{\"character\":4,\"line\":2}}}]}",
     ),
     (
         "{\"id\":4,\"jsonrpc\":\"2.0\",\"method\":\"textDocument/semanticTokens/full\",\"params\":{\"textDocument\":{\"uri\":\"file:///project/a%20b.wac\"}}}",
@@ -118,7 +118,7 @@ static DOCUMENT: [Row; 21] = [
     ),
     (
         "{\"id\":5,\"jsonrpc\":\"2.0\",\"method\":\"textDocument/documentSymbol\",\"params\":{\"textDocument\":{\"uri\":\"file:///project/a%20b.wac\"}}}",
-        "{\"id\":5,\"jsonrpc\":\"2.0\",\"result\":[{\"children\":[{\"children\":[],\"kind\":23,\"name\":\"r\",\"range\":{\"end\":{\"character\":20,\"line\":2},\"start\":{\"character\":2,\"line\":2}},\"selectionRange\":{\"end\":{\"character\":10,\"line\":2},\"start\":{\"character\":9,\"line\":2}}},{\"children\":[],\"kind\":12,\"name\":\"f\",\"range\":{\"end\":{\"character\":12,\"line\":3},\"start\":{\"character\":2,\"line\":3}},\"selectionRange\":{\"end\":{\"character\":3,\"line\":3},\"start\":{\"character\":2,\"line\":3}}}],\"kind\":11,\"name\":\"i\",\"range\":{\"end\":{\"character\":1,\"line\":4},\"start\":{\"character\":0,\"line\":1}},\"selectionRange\":{\"end\":{\"character\":11,\"line\":1},\"start\":{\"character\":10,\"line\":1}}}]}",
+        "{\"id\":5,\"jsonrpc\":\"2.0\",\"result\":[{\"children\":[{\"children\":[{\"children\":[],\"detail\":\"u8\",\"kind\":8,\"name\":\"a\",\"range\":{\"end\":{\"character\":18,\"line\":2},\"start\":{\"character\":13,\"line\":2}},\"selectionRange\":{\"end\":{\"character\":14,\"line\":2},\"start\":{\"character\":13,\"line\":2}}}],\"kind\":23,\"name\":\"r\",\"range\":{\"end\":{\"character\":20,\"line\":2},\"start\":{\"character\":2,\"line\":2}},\"selectionRange\":{\"end\":{\"character\":10,\"line\":2},\"start\":{\"character\":9,\"line\":2}}},{\"children\":[],\"detail\":\"func()\",\"kind\":12,\"name\":\"f\",\"range\":{\"end\":{\"character\":12,\"line\":3},\"start\":{\"character\":2,\"line\":3}},\"selectionRange\":{\"end\":{\"character\":3,\"line\":3},\"start\":{\"character\":2,\"line\":3}}}],\"kind\":11,\"name\":\"i\",\"range\":{\"end\":{\"character\":1,\"line\":4},\"start\":{\"character\":0,\"line\":1}},\"selectionRange\":{\"end\":{\"character\":11,\"line\":1},\"start\":{\"character\":10,\"line\":1}}}]}",
     ),
     (
         "{\"jsonrpc\":\"2.0\",\"method\":\"workspace/didChangeWatchedFiles\",\"params\":{\"changes\":[]}}",
@@ -159,11 +159,11 @@ static DOCUMENT: [Row; 21] = [
 static BYTES: [Row; 13] = [
     (
         "{\"id\":1,\"jsonrpc\":\"2.0\",\"method\":\"initialize\",\"params\":{\"capabilities\":{\"general\":{\"positionEncodings\":[\"utf-8\",\"utf-16\"]}},\"processId\":null}}",
-        "{\"id\":1,\"jsonrpc\":\"2.0\",\"result\":{\"capabilities\":{\"codeActionProvider\":{\"codeActionKinds\":[\"quickfix\"]},\"completionProvider\":{\"triggerCharacters\":[\".\",\"{\",\":\",\"/\",\"\\\"\"]},\"definitionProvider\":true,\"documentFormattingProvider\":true,\"documentHighlightProvider\":true,\"documentRangeFormattingProvider\":true,\"documentSymbolProvider\":true,\"foldingRangeProvider\":true,\"hoverProvider\":true,\"positionEncoding\":\"utf-8\",\"referencesProvider\":true,\"renameProvider\":{\"prepareProvider\":true},\"selectionRangeProvider\":true,\"semanticTokensProvider\":{\"full\":true,\"legend\":{\"tokenModifiers\":[],\"tokenTypes\":[\"keyword\",\"type\",\"string\",\"comment\",\"operator\",\"variable\",\"namespace\"]}},\"textDocumentSync\":{\"change\":2,\"openClose\":true},\"workspaceSymbolProvider\":true},\"serverInfo\":{\"name\":\"wacx\",\"version\":\"1.2.3\"}}}",
+        "{\"id\":1,\"jsonrpc\":\"2.0\",\"result\":{\"capabilities\":{\"codeActionProvider\":false,\"completionProvider\":{\"triggerCharacters\":[\".\",\"{\",\":\",\"/\",\"\\\"\"]},\"definitionProvider\":true,\"documentFormattingProvider\":true,\"documentHighlightProvider\":true,\"documentRangeFormattingProvider\":true,\"documentSymbolProvider\":true,\"foldingRangeProvider\":true,\"hoverProvider\":true,\"positionEncoding\":\"utf-8\",\"referencesProvider\":true,\"renameProvider\":true,\"selectionRangeProvider\":true,\"semanticTokensProvider\":{\"full\":true,\"legend\":{\"tokenModifiers\":[],\"tokenTypes\":[\"keyword\",\"type\",\"string\",\"comment\",\"operator\",\"variable\",\"namespace\"]}},\"textDocumentSync\":{\"change\":2,\"openClose\":true},\"workspace\":{\"workspaceFolders\":{\"changeNotifications\":true,\"supported\":true}},\"workspaceSymbolProvider\":true},\"serverInfo\":{\"name\":\"wacx\",\"version\":\"1.2.3\"}}}",
     ),
     (
         "{\"jsonrpc\":\"2.0\",\"method\":\"textDocument/didOpen\",\"params\":{\"textDocument\":{\"languageId\":\"wac\",\"text\":\"package a:b;\\n/* \u{e9} */ let x = y;\\n\",\"uri\":\"file:///project/a%20b.wac\",\"version\":7}}}",
-        "{\"jsonrpc\":\"2.0\",\"method\":\"textDocument/publishDiagnostics\",\"params\":{\"diagnostics\":[{\"code\":\"wac::undefined-name\",\"message\":\"undefined name `y`\",\"range\":{\"end\":{\"character\":18,\"line\":1},\"start\":{\"character\":17,\"line\":1}},\"relatedInformation\":[],\"severity\":1,\"source\":\"wac\"}],\"uri\":\"file:///project/a%20b.wac\",\"version\":7}}",
+        "{\"jsonrpc\":\"2.0\",\"method\":\"textDocument/publishDiagnostics\",\"params\":{\"diagnostics\":[{\"code\":\"wac::undefined-name\",\"message\":\"undefined name `y`\",\"range\":{\"end\":{\"character\":18,\"line\":1},\"start\":{\"character\":17,\"line\":1}},\"severity\":1,\"source\":\"wac\"}],\"uri\":\"file:///project/a%20b.wac\",\"version\":7}}",
     ),
     (
         "{\"id\":2,\"jsonrpc\":\"2.0\",\"method\":\"textDocument/documentSymbol\",\"params\":{\"textDocument\":{\"uri\":\"file:///project/a%20b.wac\"}}}",
@@ -192,7 +192,7 @@ static BYTES: [Row; 13] = [
     ),
     (
         "{\"jsonrpc\":\"2.0\",\"method\":\"textDocument/didChange\",\"params\":{\"contentChanges\":[{\"text\":\"package a:b;\\nlet x\u{202e} = y;\\n\"}],\"textDocument\":{\"uri\":\"file:///project/a%20b.wac\",\"version\":10}}}",
-        "{\"jsonrpc\":\"2.0\",\"method\":\"textDocument/publishDiagnostics\",\"params\":{\"diagnostics\":[{\"code\":\"wac::disallowed-bidirectional-override\",\"message\":\"disallowed bidirectional override codepoint `\\\\u{202e}`\\nremove it: it makes a text look other than it is\",\"range\":{\"end\":{\"character\":8,\"line\":1},\"start\":{\"character\":5,\"line\":1}},\"relatedInformation\":[],\"severity\":1,\"source\":\"wac\"}],\"uri\":\"file:///project/a%20b.wac\",\"version\":10}}",
+        "{\"jsonrpc\":\"2.0\",\"method\":\"textDocument/publishDiagnostics\",\"params\":{\"diagnostics\":[{\"code\":\"wac::disallowed-bidirectional-override\",\"message\":\"disallowed bidirectional override codepoint `\\\\u{202e}`\\nremove it: it makes a text look other than it is\",\"range\":{\"end\":{\"character\":8,\"line\":1},\"start\":{\"character\":5,\"line\":1}},\"severity\":1,\"source\":\"wac\"}],\"uri\":\"file:///project/a%20b.wac\",\"version\":10}}",
     ),
     (
         "{\"id\":7,\"jsonrpc\":\"2.0\",\"method\":\"textDocument/semanticTokens/full\",\"params\":{\"textDocument\":{\"uri\":\"file:///project/a%20b.wac\"}}}",
@@ -211,8 +211,8 @@ static BYTES: [Row; 13] = [
 /// A document is laid out by edits of the lines that differ, from the last to the first.
 static LAYOUT: [Row; 9] = [
     (
-        "{\"id\":1,\"jsonrpc\":\"2.0\",\"method\":\"initialize\",\"params\":{\"capabilities\":{\"textDocument\":{\"documentSymbol\":{\"hierarchicalDocumentSymbolSupport\":true}}},\"processId\":null}}",
-        "{\"id\":1,\"jsonrpc\":\"2.0\",\"result\":{\"capabilities\":{\"codeActionProvider\":{\"codeActionKinds\":[\"quickfix\"]},\"completionProvider\":{\"triggerCharacters\":[\".\",\"{\",\":\",\"/\",\"\\\"\"]},\"definitionProvider\":true,\"documentFormattingProvider\":true,\"documentHighlightProvider\":true,\"documentRangeFormattingProvider\":true,\"documentSymbolProvider\":true,\"foldingRangeProvider\":true,\"hoverProvider\":true,\"positionEncoding\":\"utf-16\",\"referencesProvider\":true,\"renameProvider\":{\"prepareProvider\":true},\"selectionRangeProvider\":true,\"semanticTokensProvider\":{\"full\":true,\"legend\":{\"tokenModifiers\":[],\"tokenTypes\":[\"keyword\",\"type\",\"string\",\"comment\",\"operator\",\"variable\",\"namespace\"]}},\"textDocumentSync\":{\"change\":2,\"openClose\":true},\"workspaceSymbolProvider\":true},\"serverInfo\":{\"name\":\"wacx\",\"version\":\"1.2.3\"}}}",
+        "{\"id\":1,\"jsonrpc\":\"2.0\",\"method\":\"initialize\",\"params\":{\"capabilities\":{\"textDocument\":{\"codeAction\":{\"codeActionLiteralSupport\":{\"codeActionKind\":{\"valueSet\":[\"quickfix\"]}}},\"documentSymbol\":{\"hierarchicalDocumentSymbolSupport\":true},\"foldingRange\":{\"lineFoldingOnly\":true},\"publishDiagnostics\":{\"codeDescriptionSupport\":true,\"relatedInformation\":true},\"rename\":{\"prepareSupport\":true}}},\"processId\":null}}",
+        "{\"id\":1,\"jsonrpc\":\"2.0\",\"result\":{\"capabilities\":{\"codeActionProvider\":{\"codeActionKinds\":[\"quickfix\"]},\"completionProvider\":{\"triggerCharacters\":[\".\",\"{\",\":\",\"/\",\"\\\"\"]},\"definitionProvider\":true,\"documentFormattingProvider\":true,\"documentHighlightProvider\":true,\"documentRangeFormattingProvider\":true,\"documentSymbolProvider\":true,\"foldingRangeProvider\":true,\"hoverProvider\":true,\"positionEncoding\":\"utf-16\",\"referencesProvider\":true,\"renameProvider\":{\"prepareProvider\":true},\"selectionRangeProvider\":true,\"semanticTokensProvider\":{\"full\":true,\"legend\":{\"tokenModifiers\":[],\"tokenTypes\":[\"keyword\",\"type\",\"string\",\"comment\",\"operator\",\"variable\",\"namespace\"]}},\"textDocumentSync\":{\"change\":2,\"openClose\":true},\"workspace\":{\"workspaceFolders\":{\"changeNotifications\":true,\"supported\":true}},\"workspaceSymbolProvider\":true},\"serverInfo\":{\"name\":\"wacx\",\"version\":\"1.2.3\"}}}",
     ),
     (
         "{\"jsonrpc\":\"2.0\",\"method\":\"textDocument/didOpen\",\"params\":{\"textDocument\":{\"languageId\":\"wac\",\"text\":\"package a:b;\\n\\nimport y:  func();\\n\\ninterface i {\\n    f: func();\\n}\\n\\nlet  x = y;\\n\",\"uri\":\"file:///project/a%20b.wac\",\"version\":1}}}",
@@ -245,6 +245,134 @@ static LAYOUT: [Row; 9] = [
     (
         "{\"id\":5,\"jsonrpc\":\"2.0\",\"method\":\"textDocument/formatting\",\"params\":{\"options\":{\"insertSpaces\":true,\"tabSize\":4},\"textDocument\":{\"uri\":\"file:///project/a%20b.wac\"}}}",
         "{\"id\":5,\"jsonrpc\":\"2.0\",\"result\":[{\"newText\":\"\",\"range\":{\"end\":{\"character\":0,\"line\":3},\"start\":{\"character\":0,\"line\":2}}}]}",
+    ),
+];
+
+/// A change of a document can't be read: its text isn't known until it is opened anew, or a whole text comes.
+static LOST: [Row; 17] = [
+    (
+        "{\"id\":1,\"jsonrpc\":\"2.0\",\"method\":\"initialize\",\"params\":{\"capabilities\":{},\"processId\":null}}",
+        "{\"id\":1,\"jsonrpc\":\"2.0\",\"result\":{\"capabilities\":{\"codeActionProvider\":false,\"completionProvider\":{\"triggerCharacters\":[\".\",\"{\",\":\",\"/\",\"\\\"\"]},\"definitionProvider\":true,\"documentFormattingProvider\":true,\"documentHighlightProvider\":true,\"documentRangeFormattingProvider\":true,\"documentSymbolProvider\":true,\"foldingRangeProvider\":true,\"hoverProvider\":true,\"positionEncoding\":\"utf-16\",\"referencesProvider\":true,\"renameProvider\":true,\"selectionRangeProvider\":true,\"semanticTokensProvider\":{\"full\":true,\"legend\":{\"tokenModifiers\":[],\"tokenTypes\":[\"keyword\",\"type\",\"string\",\"comment\",\"operator\",\"variable\",\"namespace\"]}},\"textDocumentSync\":{\"change\":2,\"openClose\":true},\"workspace\":{\"workspaceFolders\":{\"changeNotifications\":true,\"supported\":true}},\"workspaceSymbolProvider\":true},\"serverInfo\":{\"name\":\"wacx\",\"version\":\"1.2.3\"}}}",
+    ),
+    (
+        "{\"jsonrpc\":\"2.0\",\"method\":\"textDocument/didOpen\",\"params\":{\"textDocument\":{\"languageId\":\"wac\",\"text\":\"package a:b;\\nimport y: func();\\nlet x = y;\\n\",\"uri\":\"file:///project/a%20b.wac\",\"version\":1}}}",
+        "{\"jsonrpc\":\"2.0\",\"method\":\"textDocument/publishDiagnostics\",\"params\":{\"diagnostics\":[],\"uri\":\"file:///project/a%20b.wac\",\"version\":1}}",
+    ),
+    (
+        "{\"jsonrpc\":\"2.0\",\"method\":\"textDocument/didChange\",\"params\":{\"contentChanges\":[{\"range\":{\"end\":{\"character\":0,\"line\":1},\"start\":{\"character\":0,\"line\":-1}},\"text\":\"z\"}],\"textDocument\":{\"uri\":\"file:///project/a%20b.wac\",\"version\":2}}}",
+        "{\"jsonrpc\":\"2.0\",\"method\":\"textDocument/publishDiagnostics\",\"params\":{\"diagnostics\":[{\"message\":\"a change of this document couldn't be read, so its text isn't known here; close it and open it anew\",\"range\":{\"end\":{\"character\":0,\"line\":0},\"start\":{\"character\":0,\"line\":0}},\"severity\":1,\"source\":\"wac\"}],\"uri\":\"file:///project/a%20b.wac\"}}",
+    ),
+    (
+        "{\"id\":2,\"jsonrpc\":\"2.0\",\"method\":\"textDocument/documentSymbol\",\"params\":{\"textDocument\":{\"uri\":\"file:///project/a%20b.wac\"}}}",
+        "{\"error\":{\"code\":-32803,\"message\":\"a change of the document couldn't be read; open it anew\"},\"id\":2,\"jsonrpc\":\"2.0\"}",
+    ),
+    (
+        "{\"id\":3,\"jsonrpc\":\"2.0\",\"method\":\"textDocument/definition\",\"params\":{\"position\":{\"character\":8,\"line\":2},\"textDocument\":{\"uri\":\"file:///project/a%20b.wac\"}}}",
+        "{\"error\":{\"code\":-32803,\"message\":\"a change of the document couldn't be read; open it anew\"},\"id\":3,\"jsonrpc\":\"2.0\"}",
+    ),
+    (
+        "{\"id\":4,\"jsonrpc\":\"2.0\",\"method\":\"workspace/symbol\",\"params\":{\"query\":\"\"}}",
+        "{\"id\":4,\"jsonrpc\":\"2.0\",\"result\":[]}",
+    ),
+    (
+        "{\"jsonrpc\":\"2.0\",\"method\":\"textDocument/didChange\",\"params\":{\"contentChanges\":[{\"range\":{\"end\":{\"character\":0,\"line\":0},\"start\":{\"character\":0,\"line\":0}},\"text\":\"/**/\"}],\"textDocument\":{\"uri\":\"file:///project/a%20b.wac\",\"version\":3}}}",
+        "{\"jsonrpc\":\"2.0\",\"method\":\"textDocument/publishDiagnostics\",\"params\":{\"diagnostics\":[{\"message\":\"a change of this document couldn't be read, so its text isn't known here; close it and open it anew\",\"range\":{\"end\":{\"character\":0,\"line\":0},\"start\":{\"character\":0,\"line\":0}},\"severity\":1,\"source\":\"wac\"}],\"uri\":\"file:///project/a%20b.wac\"}}",
+    ),
+    (
+        "{\"jsonrpc\":\"2.0\",\"method\":\"workspace/didChangeWatchedFiles\",\"params\":{\"changes\":[]}}",
+        "{\"jsonrpc\":\"2.0\",\"method\":\"textDocument/publishDiagnostics\",\"params\":{\"diagnostics\":[{\"message\":\"a change of this document couldn't be read, so its text isn't known here; close it and open it anew\",\"range\":{\"end\":{\"character\":0,\"line\":0},\"start\":{\"character\":0,\"line\":0}},\"severity\":1,\"source\":\"wac\"}],\"uri\":\"file:///project/a%20b.wac\"}}",
+    ),
+    (
+        "{\"jsonrpc\":\"2.0\",\"method\":\"textDocument/didChange\",\"params\":{\"contentChanges\":[{\"range\":{\"end\":{\"character\":0,\"line\":0},\"start\":{\"character\":0,\"line\":0}},\"text\":\"/**/\"},{\"text\":\"package a:b;\\nimport y: func();\\nlet x = y;\\n\"},{\"range\":{\"end\":{\"character\":5,\"line\":2},\"start\":{\"character\":4,\"line\":2}},\"text\":\"z\"}],\"textDocument\":{\"uri\":\"file:///project/a%20b.wac\",\"version\":4}}}",
+        "{\"jsonrpc\":\"2.0\",\"method\":\"textDocument/publishDiagnostics\",\"params\":{\"diagnostics\":[],\"uri\":\"file:///project/a%20b.wac\",\"version\":4}}",
+    ),
+    (
+        "{\"id\":5,\"jsonrpc\":\"2.0\",\"method\":\"textDocument/documentSymbol\",\"params\":{\"textDocument\":{\"uri\":\"file:///project/a%20b.wac\"}}}",
+        "{\"id\":5,\"jsonrpc\":\"2.0\",\"result\":[{\"kind\":13,\"location\":{\"range\":{\"end\":{\"character\":17,\"line\":1},\"start\":{\"character\":0,\"line\":1}},\"uri\":\"file:///project/a%20b.wac\"},\"name\":\"y\"},{\"kind\":13,\"location\":{\"range\":{\"end\":{\"character\":10,\"line\":2},\"start\":{\"character\":0,\"line\":2}},\"uri\":\"file:///project/a%20b.wac\"},\"name\":\"z\"}]}",
+    ),
+    (
+        "{\"jsonrpc\":\"2.0\",\"method\":\"textDocument/didChange\",\"params\":{\"contentChanges\":[{\"text\":\"package a:b;\\nimport y: func();\\nlet x = y;\\n\"}],\"textDocument\":{\"uri\":\"file:///project/a%20b.wac\",\"version\":null}}}",
+        "{\"jsonrpc\":\"2.0\",\"method\":\"textDocument/publishDiagnostics\",\"params\":{\"diagnostics\":[{\"message\":\"a change of this document couldn't be read, so its text isn't known here; close it and open it anew\",\"range\":{\"end\":{\"character\":0,\"line\":0},\"start\":{\"character\":0,\"line\":0}},\"severity\":1,\"source\":\"wac\"}],\"uri\":\"file:///project/a%20b.wac\"}}",
+    ),
+    (
+        "{\"jsonrpc\":\"2.0\",\"method\":\"textDocument/didOpen\",\"params\":{\"textDocument\":{\"languageId\":\"wac\",\"text\":\"package a:b;\\nimport y: func();\\nlet x = y;\\n\",\"uri\":\"file:///project/a%20b.wac\",\"version\":5}}}",
+        "{\"jsonrpc\":\"2.0\",\"method\":\"textDocument/publishDiagnostics\",\"params\":{\"diagnostics\":[],\"uri\":\"file:///project/a%20b.wac\",\"version\":5}}",
+    ),
+    (
+        "{\"id\":6,\"jsonrpc\":\"2.0\",\"method\":\"textDocument/documentSymbol\",\"params\":{\"textDocument\":{\"uri\":\"file:///project/a%20b.wac\"}}}",
+        "{\"id\":6,\"jsonrpc\":\"2.0\",\"result\":[{\"kind\":13,\"location\":{\"range\":{\"end\":{\"character\":17,\"line\":1},\"start\":{\"character\":0,\"line\":1}},\"uri\":\"file:///project/a%20b.wac\"},\"name\":\"y\"},{\"kind\":13,\"location\":{\"range\":{\"end\":{\"character\":10,\"line\":2},\"start\":{\"character\":0,\"line\":2}},\"uri\":\"file:///project/a%20b.wac\"},\"name\":\"x\"}]}",
+    ),
+    (
+        "{\"jsonrpc\":\"2.0\",\"method\":\"textDocument/didChange\",\"params\":{\"contentChanges\":[{\"text\":3}],\"textDocument\":{\"uri\":\"file:///project/a%20b.wac\",\"version\":6}}}",
+        "{\"jsonrpc\":\"2.0\",\"method\":\"textDocument/publishDiagnostics\",\"params\":{\"diagnostics\":[{\"message\":\"a change of this document couldn't be read, so its text isn't known here; close it and open it anew\",\"range\":{\"end\":{\"character\":0,\"line\":0},\"start\":{\"character\":0,\"line\":0}},\"severity\":1,\"source\":\"wac\"}],\"uri\":\"file:///project/a%20b.wac\"}}",
+    ),
+    (
+        "{\"jsonrpc\":\"2.0\",\"method\":\"textDocument/didClose\",\"params\":{\"textDocument\":{\"uri\":\"file:///project/a%20b.wac\"}}}",
+        "{\"jsonrpc\":\"2.0\",\"method\":\"textDocument/publishDiagnostics\",\"params\":{\"diagnostics\":[],\"uri\":\"file:///project/a%20b.wac\"}}",
+    ),
+    (
+        "{\"id\":7,\"jsonrpc\":\"2.0\",\"method\":\"textDocument/documentSymbol\",\"params\":{\"textDocument\":{\"uri\":\"file:///project/a%20b.wac\"}}}",
+        "{\"error\":{\"code\":-32602,\"message\":\"the document is not open\"},\"id\":7,\"jsonrpc\":\"2.0\"}",
+    ),
+    (
+        "{\"jsonrpc\":\"2.0\",\"method\":\"textDocument/didChange\",\"params\":{\"contentChanges\":[{\"text\":3}],\"textDocument\":{\"uri\":\"file:///project/a%20b.wac\",\"version\":7}}}",
+        "",
+    ),
+];
+
+/// A client that takes no actions and folds parts of lines.
+static PLAIN: [Row; 5] = [
+    (
+        "{\"id\":1,\"jsonrpc\":\"2.0\",\"method\":\"initialize\",\"params\":{\"capabilities\":{},\"processId\":null}}",
+        "{\"id\":1,\"jsonrpc\":\"2.0\",\"result\":{\"capabilities\":{\"codeActionProvider\":false,\"completionProvider\":{\"triggerCharacters\":[\".\",\"{\",\":\",\"/\",\"\\\"\"]},\"definitionProvider\":true,\"documentFormattingProvider\":true,\"documentHighlightProvider\":true,\"documentRangeFormattingProvider\":true,\"documentSymbolProvider\":true,\"foldingRangeProvider\":true,\"hoverProvider\":true,\"positionEncoding\":\"utf-16\",\"referencesProvider\":true,\"renameProvider\":true,\"selectionRangeProvider\":true,\"semanticTokensProvider\":{\"full\":true,\"legend\":{\"tokenModifiers\":[],\"tokenTypes\":[\"keyword\",\"type\",\"string\",\"comment\",\"operator\",\"variable\",\"namespace\"]}},\"textDocumentSync\":{\"change\":2,\"openClose\":true},\"workspace\":{\"workspaceFolders\":{\"changeNotifications\":true,\"supported\":true}},\"workspaceSymbolProvider\":true},\"serverInfo\":{\"name\":\"wacx\",\"version\":\"1.2.3\"}}}",
+    ),
+    (
+        "{\"jsonrpc\":\"2.0\",\"method\":\"textDocument/didOpen\",\"params\":{\"textDocument\":{\"languageId\":\"wac\",\"text\":\"package a:b;\\nlte x = y;\\n\",\"uri\":\"file:///project/a%20b.wac\",\"version\":1}}}",
+        "{\"jsonrpc\":\"2.0\",\"method\":\"textDocument/publishDiagnostics\",\"params\":{\"diagnostics\":[{\"code\":\"wac::expected-multiple\",\"message\":\"expected either `import` keyword, `let` keyword, `export` keyword, `interface` keyword, `world` keyword, `variant` keyword, `record` keyword, `flags` keyword, `enum` keyword, or `type` keyword, found identifier\\ndid you mean `let`?\",\"range\":{\"end\":{\"character\":3,\"line\":1},\"start\":{\"character\":0,\"line\":1}},\"severity\":1,\"source\":\"wac\"}],\"uri\":\"file:///project/a%20b.wac\",\"version\":1}}",
+    ),
+    (
+        "{\"id\":2,\"jsonrpc\":\"2.0\",\"method\":\"textDocument/codeAction\",\"params\":{\"context\":{\"diagnostics\":[]},\"range\":{\"end\":{\"character\":1,\"line\":1},\"start\":{\"character\":1,\"line\":1}},\"textDocument\":{\"uri\":\"file:///project/a%20b.wac\"}}}",
+        "{\"id\":2,\"jsonrpc\":\"2.0\",\"result\":[]}",
+    ),
+    (
+        "{\"jsonrpc\":\"2.0\",\"method\":\"textDocument/didChange\",\"params\":{\"contentChanges\":[{\"text\":\"package a:b;\\n/* a\\n   b */\\ninterface i { // c\\n  f: func();\\n  record r { x: u8 }\\n}\\n\"}],\"textDocument\":{\"uri\":\"file:///project/a%20b.wac\",\"version\":2}}}",
+        "{\"jsonrpc\":\"2.0\",\"method\":\"textDocument/publishDiagnostics\",\"params\":{\"diagnostics\":[],\"uri\":\"file:///project/a%20b.wac\",\"version\":2}}",
+    ),
+    (
+        "{\"id\":3,\"jsonrpc\":\"2.0\",\"method\":\"textDocument/foldingRange\",\"params\":{\"textDocument\":{\"uri\":\"file:///project/a%20b.wac\"}}}",
+        "{\"id\":3,\"jsonrpc\":\"2.0\",\"result\":[{\"endCharacter\":7,\"endLine\":2,\"kind\":\"comment\",\"startCharacter\":0,\"startLine\":1},{\"endCharacter\":0,\"endLine\":6,\"startCharacter\":13,\"startLine\":3}]}",
+    ),
+];
+
+/// A client that takes edits of documents of a version; and a byte order mark.
+static VERSIONS: [Row; 7] = [
+    (
+        "{\"id\":1,\"jsonrpc\":\"2.0\",\"method\":\"initialize\",\"params\":{\"capabilities\":{\"textDocument\":{\"codeAction\":{\"codeActionLiteralSupport\":{\"codeActionKind\":{\"valueSet\":[]}}}},\"workspace\":{\"workspaceEdit\":{\"documentChanges\":true}}},\"processId\":null}}",
+        "{\"id\":1,\"jsonrpc\":\"2.0\",\"result\":{\"capabilities\":{\"codeActionProvider\":{\"codeActionKinds\":[\"quickfix\"]},\"completionProvider\":{\"triggerCharacters\":[\".\",\"{\",\":\",\"/\",\"\\\"\"]},\"definitionProvider\":true,\"documentFormattingProvider\":true,\"documentHighlightProvider\":true,\"documentRangeFormattingProvider\":true,\"documentSymbolProvider\":true,\"foldingRangeProvider\":true,\"hoverProvider\":true,\"positionEncoding\":\"utf-16\",\"referencesProvider\":true,\"renameProvider\":true,\"selectionRangeProvider\":true,\"semanticTokensProvider\":{\"full\":true,\"legend\":{\"tokenModifiers\":[],\"tokenTypes\":[\"keyword\",\"type\",\"string\",\"comment\",\"operator\",\"variable\",\"namespace\"]}},\"textDocumentSync\":{\"change\":2,\"openClose\":true},\"workspace\":{\"workspaceFolders\":{\"changeNotifications\":true,\"supported\":true}},\"workspaceSymbolProvider\":true},\"serverInfo\":{\"name\":\"wacx\",\"version\":\"1.2.3\"}}}",
+    ),
+    (
+        "{\"jsonrpc\":\"2.0\",\"method\":\"textDocument/didOpen\",\"params\":{\"textDocument\":{\"languageId\":\"wac\",\"text\":\"package a:b;\\nlte x = y;\\n\",\"uri\":\"file:///project/a%20b.wac\",\"version\":1}}}",
+        "{\"jsonrpc\":\"2.0\",\"method\":\"textDocument/publishDiagnostics\",\"params\":{\"diagnostics\":[{\"code\":\"wac::expected-multiple\",\"message\":\"expected either `import` keyword, `let` keyword, `export` keyword, `interface` keyword, `world` keyword, `variant` keyword, `record` keyword, `flags` keyword, `enum` keyword, or `type` keyword, found identifier\\ndid you mean `let`?\",\"range\":{\"end\":{\"character\":3,\"line\":1},\"start\":{\"character\":0,\"line\":1}},\"severity\":1,\"source\":\"wac\"}],\"uri\":\"file:///project/a%20b.wac\",\"version\":1}}",
+    ),
+    (
+        "{\"id\":2,\"jsonrpc\":\"2.0\",\"method\":\"textDocument/codeAction\",\"params\":{\"context\":{\"diagnostics\":[]},\"range\":{\"end\":{\"character\":1,\"line\":1},\"start\":{\"character\":1,\"line\":1}},\"textDocument\":{\"uri\":\"file:///project/a%20b.wac\"}}}",
+        "{\"id\":2,\"jsonrpc\":\"2.0\",\"result\":[{\"diagnostics\":[{\"code\":\"wac::expected-multiple\",\"message\":\"expected either `import` keyword, `let` keyword, `export` keyword, `interface` keyword, `world` keyword, `variant` keyword, `record` keyword, `flags` keyword, `enum` keyword, or `type` keyword, found identifier\\ndid you mean `let`?\",\"range\":{\"end\":{\"character\":3,\"line\":1},\"start\":{\"character\":0,\"line\":1}},\"severity\":1,\"source\":\"wac\"}],\"edit\":{\"documentChanges\":[{\"edits\":[{\"newText\":\"let\",\"range\":{\"end\":{\"character\":3,\"line\":1},\"start\":{\"character\":0,\"line\":1}}}],\"textDocument\":{\"uri\":\"file:///project/a%20b.wac\",\"version\":1}}]},\"kind\":\"quickfix\",\"title\":\"did you mean `let`?\"}]}",
+    ),
+    (
+        "{\"jsonrpc\":\"2.0\",\"method\":\"textDocument/didChange\",\"params\":{\"contentChanges\":[{\"text\":\"package a:b;\\nimport y: func();\\nlet x = y;\\n\"}],\"textDocument\":{\"uri\":\"file:///project/a%20b.wac\",\"version\":7}}}",
+        "{\"jsonrpc\":\"2.0\",\"method\":\"textDocument/publishDiagnostics\",\"params\":{\"diagnostics\":[],\"uri\":\"file:///project/a%20b.wac\",\"version\":7}}",
+    ),
+    (
+        "{\"id\":3,\"jsonrpc\":\"2.0\",\"method\":\"textDocument/rename\",\"params\":{\"newName\":\"z\",\"position\":{\"character\":8,\"line\":2},\"textDocument\":{\"uri\":\"file:///project/a%20b.wac\"}}}",
+        "{\"id\":3,\"jsonrpc\":\"2.0\",\"result\":{\"documentChanges\":[{\"edits\":[{\"newText\":\"z as y\",\"range\":{\"end\":{\"character\":8,\"line\":1},\"start\":{\"character\":7,\"line\":1}}},{\"newText\":\"z\",\"range\":{\"end\":{\"character\":9,\"line\":2},\"start\":{\"character\":8,\"line\":2}}}],\"textDocument\":{\"uri\":\"file:///project/a%20b.wac\",\"version\":7}}]}}",
+    ),
+    (
+        "{\"jsonrpc\":\"2.0\",\"method\":\"textDocument/didChange\",\"params\":{\"contentChanges\":[{\"text\":\"\u{feff}package a:b;\\n\"}],\"textDocument\":{\"uri\":\"file:///project/a%20b.wac\",\"version\":8}}}",
+        "{\"jsonrpc\":\"2.0\",\"method\":\"textDocument/publishDiagnostics\",\"params\":{\"diagnostics\":[{\"code\":\"wac::byte-order-mark\",\"message\":\"the text begins with a byte order mark\\nsave the file as UTF-8 without a byte order mark\",\"range\":{\"end\":{\"character\":1,\"line\":0},\"start\":{\"character\":0,\"line\":0}},\"severity\":1,\"source\":\"wac\"}],\"uri\":\"file:///project/a%20b.wac\",\"version\":8}}",
+    ),
+    (
+        "{\"id\":4,\"jsonrpc\":\"2.0\",\"method\":\"textDocument/codeAction\",\"params\":{\"context\":{\"diagnostics\":[]},\"range\":{\"end\":{\"character\":0,\"line\":0},\"start\":{\"character\":0,\"line\":0}},\"textDocument\":{\"uri\":\"file:///project/a%20b.wac\"}}}",
+        "{\"id\":4,\"jsonrpc\":\"2.0\",\"result\":[{\"diagnostics\":[{\"code\":\"wac::byte-order-mark\",\"message\":\"the text begins with a byte order mark\\nsave the file as UTF-8 without a byte order mark\",\"range\":{\"end\":{\"character\":1,\"line\":0},\"start\":{\"character\":0,\"line\":0}},\"severity\":1,\"source\":\"wac\"}],\"edit\":{\"documentChanges\":[{\"edits\":[{\"newText\":\"\",\"range\":{\"end\":{\"character\":1,\"line\":0},\"start\":{\"character\":0,\"line\":0}}}],\"textDocument\":{\"uri\":\"file:///project/a%20b.wac\",\"version\":8}}]},\"kind\":\"quickfix\",\"title\":\"remove the byte order mark\"}]}",
     ),
 ];
 
@@ -300,4 +428,19 @@ fn layouts_change_the_lines_that_differ(rt: HostRuntime) -> Result<(), Fail> {
 #[test]
 fn sessions_end_before_they_begin(rt: HostRuntime) -> Result<(), Fail> {
     is_session(&rt, rt.alloc(), &ENDED)
+}
+
+#[test]
+fn lost_changes_are_told(rt: HostRuntime) -> Result<(), Fail> {
+    is_session(&rt, rt.alloc(), &LOST)
+}
+
+#[test]
+fn clients_get_no_more_than_they_take(rt: HostRuntime) -> Result<(), Fail> {
+    is_session(&rt, rt.alloc(), &PLAIN)
+}
+
+#[test]
+fn edits_are_of_versions(rt: HostRuntime) -> Result<(), Fail> {
+    is_session(&rt, rt.alloc(), &VERSIONS)
 }
