@@ -2,7 +2,7 @@
 use serde_json::Value;
 use std::alloc::{AllocError, Global};
 use wac_lsp::{Document, Server, Suggestion};
-use wac_lsp_workspace::{Offer, Offered, Workspace};
+use wac_lsp_workspace::{Offered, Offers, Workspace};
 use wac_positions::Place;
 
 /// The number of what a name stands for among the kinds of completions.
@@ -10,19 +10,21 @@ fn number_of(what: Offered) -> u8 {
     match what {
         Offered::Function => 3,
         Offered::Instance => 8,
+        Offered::Package => 9,
         Offered::Type => 22,
         Offered::Other => 6,
     }
 }
 
-/// Names of packages as suggestions, each with the whole name beside it.
-fn suggestions(alloc: Global, offers: &[Offer]) -> Result<Vec<Suggestion<'_>>, AllocError> {
-    let mut all = Vec::with_capacity(alloc, offers.len())?;
-    for offer in offers {
+/// Names of packages as suggestions.
+fn suggestions(alloc: Global, offers: &Offers) -> Result<Vec<Suggestion<'_>>, AllocError> {
+    let mut all = Vec::with_capacity(alloc, offers.all.len())?;
+    for offer in &offers.all {
         all.push(Suggestion {
             label: offer.written.as_str(),
-            detail: offer.name.as_str(),
+            detail: offer.detail.as_str(),
             kind: number_of(offer.what),
+            start: offers.start,
         })?;
     }
     Ok(all)
@@ -38,10 +40,10 @@ pub(crate) fn completed_at(
 ) -> Result<Option<Value>, AllocError> {
     let offset = server.offset_in(alloc, document.text(), place)?;
     let offers = workspace.names_at(alloc, document.text(), offset)?;
-    if offers.is_empty() {
+    if offers.all.is_empty() {
         return Ok(None);
     }
-    let suggestions = suggestions(alloc, offers.as_slice())?;
+    let suggestions = suggestions(alloc, &offers)?;
     let value = server.completions(alloc, document, place, suggestions.as_slice())?;
     Ok(Some(value))
 }

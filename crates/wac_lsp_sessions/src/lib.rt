@@ -11,6 +11,7 @@
 
 mod completions;
 mod definitions;
+mod hovering;
 mod refreshing;
 mod serving;
 mod session;

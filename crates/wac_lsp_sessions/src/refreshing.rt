@@ -13,12 +13,15 @@ use wac_lsp_workspace::Workspace;
 /// The number of a warning among the messages of a log.
 const WARNING: u8 = 2;
 
-/// What the workspace says of a document.
+/// What the workspace says of a document: nothing of one whose text isn't known.
 pub(crate) fn said_of(
     alloc: Global,
     workspace: &Workspace,
     document: &Document,
 ) -> Result<Vec<Diagnostic>, AllocError> {
+    if document.is_lost() {
+        return Ok(Vec::new(alloc));
+    }
     match path_of_uri(alloc, document.uri())? {
         Some(path) => workspace.diagnose(alloc, path.as_str(), document.text()),
         None => Ok(Vec::new(alloc)),

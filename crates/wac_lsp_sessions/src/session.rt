@@ -5,11 +5,12 @@ ghost use Rattle.wac_lsp_sessions.specs.Answering.{Answers};
 
 use crate::completions::completed_at;
 use crate::definitions::declared_at;
+use crate::hovering::hovered_at;
 use crate::refreshing::{all_published, logged, said_of};
 use crate::watching::{Touched, touched_by, watch_request, watches_files};
 use serde_json::Value;
 use std::alloc::{AllocError, Global};
-use wac_lsp::{Outcome, Sent, Server, answer, sends_reply};
+use wac_lsp::{Document, Outcome, Sent, Server, answer, sends_reply};
 use wac_lsp_folders::{client_folders, path_of_uri};
 use wac_lsp_messages::{Call, Id, Message, Notice, Question, Refusal, read_message, reply};
 use wac_lsp_texts::ChangeError;
@@ -19,7 +20,7 @@ use wac_lsp_workspace::{FolderContents, Workspace};
 pub struct Session {
     server: Server,
     workspace: Workspace,
-    /// Whether the client takes that it is asked to watch files.
+    /// Whether the client takes that it is asked to watch files, and wasn't asked.
     watches_files: bool,
 }
 
@@ -78,6 +79,33 @@ fn with_messages(outcome: Outcome, messages: Vec<Sent>) -> Outcome
 {
     let Outcome { status, .. } = outcome;
     Outcome { messages, status }
+}
+
+/// Has a workspace take the text of an open document, if that is known.
+fn put_text(
+    alloc: Global,
+    workspace: &mut Workspace,
+    document: &Document,
+) -> Result<(), AllocError> {
+    if document.is_lost() {
+        return Ok(());
+    }
+    if let Some(path) = path_of_uri(alloc, document.uri())? {
+        let _ = workspace.put(alloc, path.as_str(), document.uri(), document.text())?;
+    }
+    Ok(())
+}
+
+/// Has a workspace take the texts of open documents.
+fn put_all(
+    alloc: Global,
+    workspace: &mut Workspace,
+    documents: &[Document],
+) -> Result<(), AllocError> {
+    for document in documents {
+        put_text(alloc, workspace, document)?;
+    }
+    Ok(())
 }
 
 /// A message that replies to nothing.
@@ -160,8 +188,8 @@ impl Session {
         }
     }
 
-    /// What a request gets that asks where something is declared, or what can stand at a place, if a package of the folders
-    /// has the answer.
+    /// What a request gets that asks where something is declared, what is said of it, or what can stand at a place, if a
+    /// package of the folders has the answer.
     fn asked(&self, alloc: Global, call: &Call) -> Result<Option<Value>, AllocError> {
         let Call::Document { uri, question } = call else {
             return Ok(None);
@@ -172,6 +200,9 @@ impl Session {
         match question {
             Question::Definition(place) => {
                 declared_at(alloc, &self.server, &self.workspace, document, *place)
+            }
+            Question::Hover(place) => {
+                hovered_at(alloc, &self.server, &self.workspace, document, *place)
             }
             Question::Completions(place) => {
                 completed_at(alloc, &self.server, &self.workspace, document, *place)
@@ -221,10 +252,15 @@ impl Session {
     {
         let touched = touched_by(alloc, &notice)?;
         let outcome = answer(alloc, &mut self.server, Message::Notification(notice))?;
-        if !self.server.is_running() || self.folders().is_empty() {
+        if !self.server.is_running() || !self.concerns(&touched) {
             return Ok(stays(outcome));
         }
         Ok(self.touched(alloc, touched, outcome)?)
+    }
+
+    /// Whether there are folders for which a notification changes something, or it changes which there are.
+    fn concerns(&self, touched: &Touched) -> bool {
+        !self.folders().is_empty() || matches!(touched, Touched::Folders { .. })
     }
 
     /// What the session does after a notification of a client with folders.
@@ -251,19 +287,38 @@ impl Session {
                 outcome: with_messages(outcome, Vec::new(alloc)),
                 reads_folders: true,
             }),
+            Touched::Folders { added, removed } => {
+                self.change_folders(alloc, added, removed.as_slice())?;
+                Ok(Stepped {
+                    outcome: self.begun(alloc, outcome)?,
+                    reads_folders: true,
+                })
+            }
         }
     }
 
-    /// Asks a client to watch files, if it takes that.
-    fn begun(&self, alloc: Global, outcome: Outcome) -> Result<Outcome, AllocError>
+    /// Takes that a client has other folders open. The documents in them that are open stand before their files.
+    fn change_folders(
+        &mut self,
+        alloc: Global,
+        added: Vec<String>,
+        removed: &[String],
+    ) -> Result<(), AllocError> {
+        self.workspace.change_folders(alloc, added, removed)?;
+        put_all(alloc, &mut self.workspace, self.server.documents())
+    }
+
+    /// Asks a client to watch files, if it has folders, takes that and wasn't asked.
+    fn begun(&mut self, alloc: Global, outcome: Outcome) -> Result<Outcome, AllocError>
         requires ids { replies outcome.messages.items ≡ [] }
         requires written { AreReplies outcome.messages.items }
         ensures ids { IfOk result (λ outcome. replies outcome.messages.items ≡ []) }
         ensures written { IfOk result (λ outcome. AreReplies outcome.messages.items) }
     {
-        if !self.watches_files {
+        if !self.watches_files || self.folders().is_empty() {
             return Ok(outcome);
         }
+        self.watches_files = false;
         let body = watch_request(alloc)?;
         Ok(with_messages(outcome, sends_one(alloc, body)?))
     }
@@ -323,7 +378,8 @@ impl Session {
         all_published(alloc, &self.server, &self.workspace)
     }
 
-    /// What the session does after a document was closed: its file stands for itself again, and is read.
+    /// What the session does after a document was closed, or a change of it was lost: its file stands for itself again, and
+    /// is read.
     fn closed(&mut self, alloc: Global, uri: &str, outcome: Outcome) -> Result<Stepped, AllocError>
         requires ids { replies outcome.messages.items ≡ [] }
         requires written { AreReplies outcome.messages.items }

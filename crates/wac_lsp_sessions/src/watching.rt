@@ -1,6 +1,7 @@
 //! What a message means for the folders of a client.
 use serde_json::{Value, json};
 use std::alloc::{AllocError, Global};
+use wac_lsp_folders::folder_paths;
 use wac_lsp_messages::Notice;
 
 /// What a notification changes of what is known of folders.
@@ -10,12 +11,18 @@ pub(crate) enum Touched {
     Nothing,
     /// The text of the document of this name.
     Text(String),
-    /// That the document of this name is open: its file may be another one than before.
+    /// That the text of the document of this name is known: it was closed, or a change of it was lost. Its file counts from
+    /// then on, and may be another one than before.
     Closed(String),
     /// The client has begun.
     Begun,
     /// The files.
     Files,
+    /// The folders that the client has open, by their paths.
+    Folders {
+        added: Vec<String>,
+        removed: Vec<String>,
+    },
 }
 
 /// What a notification changes of what is known of folders.
@@ -24,9 +31,16 @@ pub(crate) fn touched_by(alloc: Global, notice: &Notice) -> Result<Touched, Allo
         Notice::Opened { uri, .. } | Notice::Changed { uri, .. } => {
             Ok(Touched::Text(String::from_str(alloc, uri.as_str())?))
         }
-        Notice::Closed { uri } => Ok(Touched::Closed(String::from_str(alloc, uri.as_str())?)),
+        Notice::Closed { uri } | Notice::Lost { uri } => Ok(Touched::Closed(String::from_str(
+            alloc,
+            uri.as_str(),
+        )?)),
         Notice::Initialized => Ok(Touched::Begun),
         Notice::FilesChanged => Ok(Touched::Files),
+        Notice::FoldersChanged { added, removed } => Ok(Touched::Folders {
+            added: folder_paths(alloc, added.as_slice())?,
+            removed: folder_paths(alloc, removed.as_slice())?,
+        }),
         Notice::Exit | Notice::Other => Ok(Touched::Nothing),
     }
 }

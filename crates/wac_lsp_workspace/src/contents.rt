@@ -1,6 +1,7 @@
 //! Reading the folders of a client.
 ghost use Rattle.std.specs.Prelude.{◌≡◌};
 
+use crate::components::{ShownPackage, shown_packages};
 use crate::kinds::is_declaration;
 use crate::walk::documents_below;
 use std::alloc::{AllocError, Global};
@@ -33,6 +34,8 @@ pub(crate) struct ComponentPackage {
     pub(crate) key: String,
     /// Its package: none where its bytes have an error.
     pub(crate) package: Option<Package>,
+    /// What `wacx package` shows of it, its own package first: nothing where its bytes have an error.
+    pub(crate) shown: Vec<ShownPackage>,
 }
 
 /// What was read of folders: their documents that declare packages, and their components.
@@ -238,10 +241,12 @@ impl FolderContents {
             return self.too_large(alloc, path);
         }
         let package = package_in(alloc, bytes)?;
+        let shown = shown_packages(alloc, bytes, key)?;
         self.components.push(ComponentPackage {
             path: String::from_str(alloc, path)?,
             key: String::from_str(alloc, key)?,
             package,
+            shown,
         })?;
         Ok(())
     }

@@ -1,9 +1,14 @@
 //! Where what a text names of packages is declared.
-use crate::named::named_at;
+use crate::declaring::Declaring;
+use crate::denoting::Denoted;
+use crate::kinds::accepted;
+use crate::named::{Named, named_at};
+use crate::offering::named_by;
 use crate::searching::declared_at;
 use crate::sources::Source;
 use crate::workspace::Workspace;
 use std::alloc::{AllocError, Global};
+use wac_completion::{Foreign, foreign_name_at};
 use wac_lexer::SourceSpan;
 
 /// A place in a document that declares a package.
@@ -19,6 +24,13 @@ pub struct Declaration<'w> {
     pub span: SourceSpan,
 }
 
+/// A place in a text that declares a package.
+#[derive(Clone, Copy)]
+pub(crate) struct Found<'w> {
+    pub(crate) declaring: Declaring<'w>,
+    pub(crate) span: SourceSpan,
+}
+
 /// The name of a document that is open.
 fn uri_of(source: &Source) -> Option<&str> {
     match &source.opened {
@@ -27,35 +39,111 @@ fn uri_of(source: &Source) -> Option<&str> {
     }
 }
 
-/// A place in a source.
-fn place_in(source: &Source, span: SourceSpan) -> Option<Declaration<'_>> {
+/// A place in a document: a component has none.
+fn in_document(found: Found<'_>) -> Option<Declaration<'_>> {
+    let source = found.declaring.source?;
     Some(Declaration {
         path: source.path.as_str(),
         uri: uri_of(source),
-        text: source.text()?,
-        span,
+        text: found.declaring.text,
+        span: found.span,
     })
 }
 
+/// A place in a text, if there is one.
+fn place_in<'w>(declaring: Declaring<'w>, span: Option<SourceSpan>) -> Option<Found<'w>> {
+    let span = span?;
+    Some(Found { declaring, span })
+}
+
+/// Where a text declares what is denoted.
+fn denoted_in(text: &str, denoted: Denoted<'_>) -> Option<SourceSpan> {
+    match denoted.name {
+        Some(name) => denoted.place.declares(text, name),
+        None => denoted.place.declared(text),
+    }
+}
+
+/// The package of whose instances something is asked for, with its version.
+fn owner_of<'t>(foreign: &Foreign<'t>) -> Option<&'t str> {
+    match foreign {
+        Foreign::Argument { package, .. } => Some(*package),
+        Foreign::Export { origin, .. } => named_by(*origin),
+        Foreign::UsedType { .. } => None,
+    }
+}
+
 impl Workspace {
-    /// Where what a text names of a package at an offset is declared: the package, an interface, a world or a type. There
-    /// is nothing where no document of the folders declares that, as the package of a component.
-    pub fn declaration_at(
+    /// Where what is named of a package is declared.
+    fn declared(&self, alloc: Global, named: &Named<'_>) -> Result<Option<Found<'_>>, AllocError> {
+        let key = named.key(alloc)?;
+        match self.declaring(&key, None) {
+            Some(declaring) => Ok(place_in(declaring, declared_at(declaring.text, named))),
+            None => Ok(None),
+        }
+    }
+
+    /// Where what is denoted is declared: by a text that shows this component, if by no other.
+    fn declared_by(
         &self,
         alloc: Global,
-        text: &str,
-        offset: usize,
-    ) -> Result<Option<Declaration<'_>>, AllocError> {
-        let Some(named) = named_at(text, offset) else {
-            return Ok(None);
-        };
-        let key = named.key(alloc)?;
-        let Some(source) = self.source_of(&key) else {
-            return Ok(None);
-        };
-        match declared_at(source.text().unwrap_or(""), &named) {
-            Some(span) => Ok(place_in(source, span)),
+        denoted: Denoted<'_>,
+        owner: Option<&str>,
+    ) -> Result<Option<Found<'_>>, AllocError> {
+        let key = denoted.place.key(alloc)?;
+        match self.declaring(&key, owner) {
+            Some(declaring) => Ok(place_in(declaring, denoted_in(declaring.text, denoted))),
             None => Ok(None),
+        }
+    }
+
+    /// Where the argument or the export that a text names at an offset is declared.
+    fn foreign_at<'x>(
+        &'x self,
+        alloc: Global,
+        text: &'x str,
+        offset: usize,
+    ) -> Result<Option<Found<'x>>, AllocError> {
+        let found = match foreign_name_at(alloc, accepted(text), offset) {
+            Ok(Some(found)) => found,
+            Ok(None) => return Ok(None),
+            Err(error) => return Err(error),
+        };
+        match self.denoted_by(alloc, &found) {
+            Ok(Some(denoted)) => self.declared_by(alloc, denoted, owner_of(&found.foreign)),
+            Ok(None) => Ok(None),
+            Err(error) => Err(error),
+        }
+    }
+
+    /// Where what a text names of a package at an offset is declared, by a document or by a text that shows a component.
+    pub(crate) fn found_at<'x>(
+        &'x self,
+        alloc: Global,
+        text: &'x str,
+        offset: usize,
+    ) -> Result<Option<Found<'x>>, AllocError> {
+        match named_at(text, offset) {
+            Some(named) => self.declared(alloc, &named),
+            None => self.foreign_at(alloc, text, offset),
+        }
+    }
+
+    /// Where what a text names of a package at an offset is declared: the package, an interface, a world or a type, and an
+    /// argument of an instance or an export of one: where that has a path, the interface of it, and else the item of the
+    /// package's world. There is nothing where no document of the folders declares that, as the package of a component.
+    ///
+    /// An argument that is an identifier without a colon is what the text itself binds, so nothing is said of it here.
+    pub fn declaration_at<'x>(
+        &'x self,
+        alloc: Global,
+        text: &'x str,
+        offset: usize,
+    ) -> Result<Option<Declaration<'x>>, AllocError> {
+        match self.found_at(alloc, text, offset) {
+            Ok(Some(found)) => Ok(in_document(found)),
+            Ok(None) => Ok(None),
+            Err(error) => Err(error),
         }
     }
 }

@@ -7,19 +7,27 @@
 //! workspace.take(alloc, contents)?;
 //! let changed = workspace.open(alloc, path, uri, text)?;              // an open text stands before its file
 //! let found = workspace.diagnose(alloc, path, text)?;                 // as `wacx check --packages` says it
-//! let declared = workspace.declaration_at(text, offset);              // of `new a:b`, of `a:b/i`, of `use a:b/i.{t}`
-//! let names = workspace.names_at(alloc, text, offset)?;               // in `new a:b { `, behind `x.`, in `use a:b/i.{`
+//! let declared = workspace.declaration_at(alloc, text, offset)?;      // of `new a:b`, of `a:b/i`, of `use a:b/i.{t}`, of `x.f`
+//! let described = workspace.described_at(alloc, text, offset)?;        // the same, and of components what is shown of them
+//! let names = workspace.names_at(alloc, text, offset)?;               // in `new a:b { `, behind `x.`, `new ` and `use `
 //! ```
 //!
 //! A document has a package if it has no target and no statement but those of types; every other one is a composition.
 #![tactic(auto)]
 
+mod components;
 mod contents;
 mod declarations;
+mod declaring;
+mod denoting;
+mod details;
+mod hovering;
 mod kinds;
 mod named;
 mod offering;
 mod packages;
+mod paths;
+mod places;
 mod searching;
 mod sources;
 mod telling;
@@ -28,6 +36,7 @@ mod workspace;
 
 pub use contents::{FolderContents, read_folders};
 pub use declarations::Declaration;
+pub use hovering::Described;
 pub use kinds::is_declaration;
-pub use offering::{Offer, Offered};
+pub use offering::{Offer, Offered, Offers};
 pub use workspace::Workspace;

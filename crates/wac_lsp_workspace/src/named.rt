@@ -23,7 +23,7 @@ pub(crate) fn text_at(text: &str, span: SourceSpan) -> &str {
 }
 
 /// Whether an offset is at a span, or just behind it.
-fn is_at(span: SourceSpan, offset: usize) -> bool {
+pub(crate) fn is_at(span: SourceSpan, offset: usize) -> bool {
     span.offset() <= offset && offset <= span.offset().saturating_add(span.len())
 }
 
@@ -91,9 +91,7 @@ impl<'t> Finder<'t> {
         if self.before == Token::AsKeyword || !is_at(span, self.offset) {
             return None;
         }
-        let path = text_at(self.text, self.used?);
-        let mut named = named_in(path, path.len());
-        named.segments = segments_of(path);
+        let mut named = whole(text_at(self.text, self.used?));
         named.item = Some(text_at(self.text, span));
         Some(named)
     }
@@ -124,6 +122,13 @@ pub(crate) fn segments_of(path: &str) -> &str {
         Some((_, segments)) => segments,
         None => "",
     }
+}
+
+/// What a whole path names.
+pub(crate) fn whole(path: &str) -> Named<'_> {
+    let mut named = named_in(path, path.len());
+    named.segments = segments_of(path);
+    named
 }
 
 /// What of a package a text names at an offset, by its tokens up to its first rejected character.

@@ -3,11 +3,14 @@ use crate::kinds::accepted;
 use crate::named::{Named, text_at};
 use wac_lexer::{Lexer, SourceSpan, Token};
 
-/// Whether a keyword comes before the name of what it declares.
+/// Whether a token comes before the name of what is declared: a keyword, and before a function the end of what is before it.
 fn declares(token: Token) -> bool {
     matches!(
         token,
-        Token::InterfaceKeyword
+        Token::OpenBrace
+            | Token::CloseBrace
+            | Token::Semicolon
+            | Token::InterfaceKeyword
             | Token::WorldKeyword
             | Token::TypeKeyword
             | Token::ResourceKeyword
@@ -35,7 +38,7 @@ struct Search<'s> {
 }
 
 /// A name without the mark of one that is a keyword too.
-fn plain(name: &str) -> &str {
+pub(crate) fn plain(name: &str) -> &str {
     name.strip_prefix('%').unwrap_or(name)
 }
 
@@ -91,8 +94,55 @@ impl<'s> Search<'s> {
     }
 }
 
+/// Where a document has an item of a world of this name: the first one behind a keyword, `import` or `export`.
+pub(crate) fn item_behind(text: &str, keyword: Token, name: &str) -> Option<SourceSpan> {
+    let Ok(mut lexer) = Lexer::new(accepted(text)) else {
+        return None;
+    };
+    let mut before = Token::Semicolon;
+    while let Some((item, span)) = lexer.next() {
+        if let Ok(token) = item {
+            let is_item = token == Token::Ident && before == keyword;
+            if is_item && plain(text_at(text, span)) == plain(name) {
+                return Some(span);
+            }
+            before = token;
+        }
+    }
+    None
+}
+
+/// Where a text declares a name in the first braces behind a span.
+pub(crate) fn declared_within<'s>(
+    text: &'s str,
+    outer: SourceSpan,
+    name: &'s str,
+) -> Option<SourceSpan> {
+    let mut search = Search {
+        text,
+        wanted: Some(name),
+        rest: "",
+        item: None,
+        braces: 0,
+        level: 1,
+        is_declared: false,
+        found: None,
+    };
+    let Ok(mut lexer) = Lexer::new(accepted(text)) else {
+        return None;
+    };
+    while let Some((item, span)) = lexer.next() {
+        if let Ok(token) = item {
+            if outer.offset() < span.offset() && !search.take(token, span) {
+                return search.found;
+            }
+        }
+    }
+    search.found
+}
+
 /// Where a document declares what is named of its package: where it names the package, if that is named itself; where
-/// something isn't declared by a keyword, that in which it is.
+/// something isn't found, that in which it is.
 pub(crate) fn declared_at<'s>(text: &'s str, named: &Named<'s>) -> Option<SourceSpan> {
     let mut search = Search {
         text,

@@ -64,6 +64,59 @@ fn add_all_open(
     Ok(())
 }
 
+/// Whether a path is in one of some folders.
+fn is_within(folders: &[String], path: &str) -> bool {
+    for folder in folders {
+        if behind(folder.as_str(), path).is_some() {
+            return true;
+        }
+    }
+    false
+}
+
+/// Whether a folder is one of some.
+fn is_among(folders: &[String], folder: &str) -> bool {
+    folders.iter().any(|other| other.as_str() == folder)
+}
+
+/// Folders without others.
+fn without(
+    alloc: Global,
+    folders: Vec<String>,
+    removed: &[String],
+) -> Result<Vec<String>, AllocError> {
+    let mut left = Vec::new(alloc);
+    for folder in folders {
+        if !is_among(removed, folder.as_str()) {
+            left.push(folder)?;
+        }
+    }
+    Ok(left)
+}
+
+/// Adds a folder, unless it is there.
+fn add_folder(folders: &mut Vec<String>, folder: String) -> Result<(), AllocError> {
+    if !is_among(folders.as_slice(), folder.as_str()) {
+        folders.push(folder)?;
+    }
+    Ok(())
+}
+
+/// The sources that are in one of some folders.
+fn within(
+    alloc: Global,
+    folders: &[String],
+    sources: Vec<Source>,
+) -> Result<Vec<Source>, AllocError> {
+    let mut left = Vec::new(alloc);
+    for source in sources {
+        if is_within(folders, source.path.as_str()) {
+            left.push(source)?;
+        }
+    }
+    Ok(left)
+}
+
 impl Workspace {
     /// The workspace of folders of which nothing was read. Their paths end with no slash.
     pub fn new(alloc: Global, folders: Vec<String>) -> Workspace {
@@ -82,12 +135,7 @@ impl Workspace {
 
     /// Whether a path is in one of the folders.
     pub fn holds(&self, path: &str) -> bool {
-        for folder in self.folders.as_slice() {
-            if behind(folder.as_str(), path).is_some() {
-                return true;
-            }
-        }
-        false
+        is_within(self.folders.as_slice(), path)
     }
 
     /// Makes the packages anew.
@@ -128,11 +176,28 @@ impl Workspace {
         Ok(passed_over)
     }
 
-    /// Takes the text of a document that was opened or changed, which stands before its file. Returns whether packages
-    /// were made anew. Documents in no folder are passed over.
-    ///
-    /// `uri` is the client's name of the document.
-    pub fn open(
+    /// Takes that the client opened folders and closed others, of which it may have been told before. Their paths end with
+    /// no slash. What was open in a folder that was closed is forgotten, unless it is in another one too. Packages are made
+    /// anew once the folders are read, and given to `take`; texts that are open in a folder that was opened are to be given
+    /// to `put` before.
+    pub fn change_folders(
+        &mut self,
+        alloc: Global,
+        added: Vec<String>,
+        removed: &[String],
+    ) -> Result<(), AllocError> {
+        let folders = std::mem::replace(&mut self.folders, Vec::new(alloc));
+        self.folders = without(alloc, folders, removed)?;
+        for folder in added {
+            add_folder(&mut self.folders, folder)?;
+        }
+        let sources = std::mem::replace(&mut self.sources, Vec::new(alloc));
+        self.sources = within(alloc, self.folders.as_slice(), sources)?;
+        Ok(())
+    }
+
+    /// Takes the text of an open document as `open` does, and makes no packages. Returns whether they are to be made anew.
+    pub fn put(
         &mut self,
         alloc: Global,
         path: &str,
@@ -146,7 +211,21 @@ impl Workspace {
             uri: String::from_str(alloc, uri)?,
             text: declaration_in(alloc, text.as_bytes())?,
         };
-        let changes = put_open(alloc, &mut self.sources, path, opened)?;
+        put_open(alloc, &mut self.sources, path, opened)
+    }
+
+    /// Takes the text of a document that was opened or changed, which stands before its file. Returns whether packages
+    /// were made anew. Documents in no folder are passed over.
+    ///
+    /// `uri` is the client's name of the document.
+    pub fn open(
+        &mut self,
+        alloc: Global,
+        path: &str,
+        uri: &str,
+        text: &str,
+    ) -> Result<bool, AllocError> {
+        let changes = self.put(alloc, path, uri, text)?;
         if changes {
             self.renew(alloc)?;
         }
@@ -184,6 +263,11 @@ impl Workspace {
             Some(document) => declaration_fault(alloc, &self.packages, document, text),
             None => composition_fault(alloc, self.packages.known(), text),
         }
+    }
+
+    /// The components of the folders.
+    pub(crate) fn components(&self) -> &[ComponentPackage] {
+        self.components.as_slice()
     }
 
     /// The packages of the folders, those without an error.

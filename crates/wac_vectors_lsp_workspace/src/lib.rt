@@ -5,6 +5,8 @@
 #[cfg(test)]
 mod changed;
 #[cfg(test)]
+mod declared;
+#[cfg(test)]
 mod folders;
 #[cfg(test)]
 mod kinds;

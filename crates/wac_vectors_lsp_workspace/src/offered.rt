@@ -14,17 +14,23 @@ fn letter(what: Offered) -> char {
         Offered::Function => 'f',
         Offered::Instance => 'i',
         Offered::Type => 't',
+        Offered::Package => 'p',
         Offered::Other => '?',
     }
 }
 
-/// The names at the mark of a text, each with a letter for what it stands for.
+/// The names at the mark of a text, each with a letter for what it stands for, behind where what they replace begins, if
+/// that isn't the word.
 fn line_of(alloc: Global, workspace: &Workspace, marked: &str) -> Result<String, AllocError> {
     let (before, after) = marked.split_once('|').unwrap_or((marked, ""));
     let mut text = String::from_str(alloc, before)?;
     text.push_str(after)?;
+    let offers = workspace.names_at(alloc, text.as_str(), before.len())?;
     let mut line = String::new(alloc);
-    for offer in &workspace.names_at(alloc, text.as_str(), before.len())? {
+    if let Some(start) = offers.start {
+        line.push_str(format!(in alloc; "{start}")?.as_str())?;
+    }
+    for offer in &offers.all {
         if !line.is_empty() {
             line.push(' ')?;
         }
@@ -36,7 +42,7 @@ fn line_of(alloc: Global, workspace: &Workspace, marked: &str) -> Result<String,
 }
 
 /// Texts with a mark, and the names there.
-static ROWS: [(&str, &str); 12] = [
+static ROWS: [(&str, &str); 26] = [
     (
         "package a:b; let x = new shop:pricing@2.0.0 { |",
         "i:sink f:vat",
@@ -79,6 +85,56 @@ static ROWS: [(&str, &str); 12] = [
         "",
     ),
     ("package a:b; export |", ""),
+    ("package a:b; let x = new shop:pricing@2.0.0 { // s|", ""),
+    ("package a:b; let x = new shop:pricing@2.0.0 { /* s|", ""),
+    (
+        "package a:b; let x = new shop:pricing@2.0.0 { \"s|",
+        "46 i:\"shop:logging/sink@0.3.0\" f:\"vat\"",
+    ),
+    (
+        "package a:b; let x = new shop:pricing@2.0.0 { \"|\"",
+        "46 i:\"shop:logging/sink@0.3.0 f:\"vat",
+    ),
+    (
+        "package a:b; import x: shop:logging/sink@0.3.0; export x.|",
+        "t:level f:write",
+    ),
+    (
+        "package a:b; let x = new shop:cache@1.2.0 { ... }; let y = x; export y.|",
+        "i:api i:metrics",
+    ),
+    (
+        "package a:b; let x = new shop:cache@1.2.0 { ... }; let y = x.metrics; export y.|",
+        "f:hits",
+    ),
+    (
+        "package a:b; let x = new shop:cache@1.2.0 { ... }; export x[\"shop:carts/metrics@1.0.0\"].h|",
+        "f:hits",
+    ),
+    (
+        "package a:b; let x = new shop:cache@1.2.0 { ... }; export x[\"|",
+        "60 i:\"shop:carts/api@1.0.0\" i:\"shop:carts/metrics@1.0.0\"",
+    ),
+    (
+        "package a:b; let x = new shop:cache@1.2.0 { ... }; export x[\"shop:carts/m|\"];",
+        "60 i:\"shop:carts/api@1.0.0 i:\"shop:carts/metrics@1.0.0",
+    ),
+    (
+        "package a:b; let x = new shop:cache@1.2.0 { ... }; export x.none.|",
+        "",
+    ),
+    (
+        "package a:b; import x: shop:edge/service@1.0.0; export x.|",
+        "",
+    ),
+    (
+        "package a:b; import x: shop:logging/none@0.3.0; export x.|",
+        "",
+    ),
+    (
+        "package a:b; import x: shop:none/sink@0.3.0; export x.|",
+        "",
+    ),
 ];
 
 /// Packages with names that are alike, and with one that is a keyword.
@@ -103,5 +159,68 @@ fn keywords_are_offered_with_their_sign(rt: HostRuntime) -> Result<(), Fail> {
     let text = "package a:b; let x = new c:d { |";
     let found = line_of(rt.alloc(), &workspace, text)?;
     assert!(rt; found.as_str() == "i:e f:%let i:i", "{found}");
+    Ok(())
+}
+
+/// Texts with a mark where the name of a package or a path can stand, or can't, and what is offered there.
+static NAMED: [(&str, &str); 8] = [
+    (
+        "package a:b; import x: shop:carts/|",
+        "23 i:shop:carts/api@1.0.0 i:shop:carts/metrics@1.0.0",
+    ),
+    (
+        "package a:b; interface i { use shop:logging/s|",
+        "31 i:shop:logging/sink@0.2.0 i:shop:logging/sink@0.3.0",
+    ),
+    (
+        "package a:b; world w { include shop:cache/|",
+        "31 p:shop:cache/cache@1.2.0",
+    ),
+    (
+        "package a:b targets shop:edge/|",
+        "20 p:shop:edge/service@1.0.0",
+    ),
+    ("package a:b; import x: shop:nothing/|", "23"),
+    ("package a:b; export y as |", ""),
+    ("package sh|", ""),
+    ("package a:b; // new sh|", ""),
+];
+
+/// Two packages, of which one has a version.
+static TWO: [(&str, &str); 2] = [
+    (
+        "d.wac",
+        "package c:d; interface i { f: func(); } world w { }",
+    ),
+    ("e.wac", "package e:f@1.2.0; interface j { f: func(); }"),
+];
+
+/// The same of these.
+static OF_TWO: [(&str, &str); 5] = [
+    ("package a:b; let x = new |", "25 p:c:d p:e:f@1.2.0"),
+    ("package a:b; let x = new e:f@|", "25 p:c:d p:e:f@1.2.0"),
+    (
+        "package a:b; import x: |",
+        "23 i:c:d/i p:c:d/w i:e:f/j@1.2.0",
+    ),
+    (
+        "package a:b; world w { import e|",
+        "30 i:c:d/i p:c:d/w i:e:f/j@1.2.0",
+    ),
+    ("package a:b; let x = ; import y: e:f/|", "33 i:e:f/j@1.2.0"),
+];
+
+#[test]
+fn packages_and_paths_are_offered(rt: HostRuntime) -> Result<(), Fail> {
+    let workspace = workspace_of(rt.alloc(), &["packages"], &PACKAGES)?;
+    for (marked, expected) in &NAMED {
+        let found = line_of(rt.alloc(), &workspace, marked)?;
+        assert!(rt; found.as_str() == *expected, "{marked}: {found}");
+    }
+    let workspace = workspace_of(rt.alloc(), &[], &TWO)?;
+    for (marked, expected) in &OF_TWO {
+        let found = line_of(rt.alloc(), &workspace, marked)?;
+        assert!(rt; found.as_str() == *expected, "{marked}: {found}");
+    }
     Ok(())
 }

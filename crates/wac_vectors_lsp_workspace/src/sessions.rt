@@ -26,10 +26,10 @@ fn files_of(alloc: Global) -> Result<MemoryFiles, AllocError> {
 
 /// A client begins that can be asked to watch files. The reply is that of a server without folders.
 const BEGINS: &str =
-    "{\"id\":1,\"jsonrpc\":\"2.0\",\"method\":\"initialize\",\"params\":{\"capabilities\":{\"workspace\":{\"didChangeWatchedFiles\":{\"dynamicRegistration\":true}}},\"workspaceFolders\":[{\"name\":\"p\",\"uri\":\"file:///my%20project\"}]}}";
+    "{\"id\":1,\"jsonrpc\":\"2.0\",\"method\":\"initialize\",\"params\":{\"capabilities\":{\"textDocument\":{\"publishDiagnostics\":{\"relatedInformation\":true}},\"workspace\":{\"didChangeWatchedFiles\":{\"dynamicRegistration\":true}}},\"workspaceFolders\":[{\"name\":\"p\",\"uri\":\"file:///my%20project\"}]}}";
 
 /// A composition with `a:b` is opened, and the document of `a:b` is opened, changed, changed back and closed.
-static ROWS: [Row; 11] = [
+static ROWS: [Row; 15] = [
     (
         "{\"jsonrpc\":\"2.0\",\"method\":\"initialized\",\"params\":{}}",
         "{\"id\":\"files\",\"jsonrpc\":\"2.0\",\"method\":\"client/registerCapability\",\"params\":{\"registrations\":[{\"id\":\"files\",\"method\":\"workspace/didChangeWatchedFiles\",\"registerOptions\":{\"watchers\":[{\"globPattern\":\"**/*.{wac,wasm}\"}]}}]}}\n",
@@ -62,6 +62,11 @@ static ROWS: [Row; 11] = [
         "{\"id\":3,\"jsonrpc\":\"2.0\",\"method\":\"textDocument/definition\",\"params\":{\"position\":{\"character\":7,\"line\":2},\"textDocument\":{\"uri\":\"file:///my%20project/app.wac\"}}}",
         "{\"id\":3,\"jsonrpc\":\"2.0\",\"result\":{\"range\":{\"end\":{\"character\":5,\"line\":1},\"start\":{\"character\":4,\"line\":1}},\"uri\":\"file:///my%20project/app.wac\"}}\n",
     ),
+    // Behind `new a:`, what is written of the name is replaced.
+    (
+        "{\"id\":5,\"jsonrpc\":\"2.0\",\"method\":\"textDocument/completion\",\"params\":{\"position\":{\"character\":14,\"line\":1},\"textDocument\":{\"uri\":\"file:///my%20project/app.wac\"}}}",
+        "{\"id\":5,\"jsonrpc\":\"2.0\",\"result\":{\"isIncomplete\":false,\"items\":[{\"detail\":\"a:b\",\"kind\":9,\"label\":\"a:b\",\"textEdit\":{\"newText\":\"a:b\",\"range\":{\"end\":{\"character\":14,\"line\":1},\"start\":{\"character\":12,\"line\":1}}}},{\"detail\":\"a:c\",\"kind\":9,\"label\":\"a:c\",\"textEdit\":{\"newText\":\"a:c\",\"range\":{\"end\":{\"character\":14,\"line\":1},\"start\":{\"character\":12,\"line\":1}}}}]}}\n",
+    ),
     // Its file stands for itself again.
     (
         "{\"jsonrpc\":\"2.0\",\"method\":\"textDocument/didClose\",\"params\":{\"textDocument\":{\"uri\":\"file:///my%20project/%62.wac\"}}}",
@@ -72,9 +77,115 @@ static ROWS: [Row; 11] = [
         "{\"id\":4,\"jsonrpc\":\"2.0\",\"method\":\"textDocument/definition\",\"params\":{\"position\":{\"character\":13,\"line\":1},\"textDocument\":{\"uri\":\"file:///my%20project/app.wac\"}}}",
         "{\"id\":4,\"jsonrpc\":\"2.0\",\"result\":{\"range\":{\"end\":{\"character\":11,\"line\":0},\"start\":{\"character\":8,\"line\":0}},\"uri\":\"file:///my%20project/b.wac\"}}\n",
     ),
+    // Of what the instance exports: where it is declared, what is said of it, and what completes there.
+    (
+        "{\"id\":6,\"jsonrpc\":\"2.0\",\"method\":\"textDocument/definition\",\"params\":{\"position\":{\"character\":9,\"line\":2},\"textDocument\":{\"uri\":\"file:///my%20project/app.wac\"}}}",
+        "{\"id\":6,\"jsonrpc\":\"2.0\",\"result\":{\"range\":{\"end\":{\"character\":18,\"line\":1},\"start\":{\"character\":17,\"line\":1}},\"uri\":\"file:///my%20project/b.wac\"}}\n",
+    ),
+    (
+        "{\"id\":7,\"jsonrpc\":\"2.0\",\"method\":\"textDocument/hover\",\"params\":{\"position\":{\"character\":9,\"line\":2},\"textDocument\":{\"uri\":\"file:///my%20project/app.wac\"}}}",
+        "{\"id\":7,\"jsonrpc\":\"2.0\",\"result\":{\"contents\":{\"kind\":\"plaintext\",\"value\":\"export f: func();\"},\"range\":{\"end\":{\"character\":10,\"line\":2},\"start\":{\"character\":9,\"line\":2}}}}\n",
+    ),
+    (
+        "{\"id\":8,\"jsonrpc\":\"2.0\",\"method\":\"textDocument/completion\",\"params\":{\"position\":{\"character\":9,\"line\":2},\"textDocument\":{\"uri\":\"file:///my%20project/app.wac\"}}}",
+        "{\"id\":8,\"jsonrpc\":\"2.0\",\"result\":{\"isIncomplete\":false,\"items\":[{\"detail\":\"func()\",\"kind\":3,\"label\":\"f\",\"textEdit\":{\"newText\":\"f\",\"range\":{\"end\":{\"character\":9,\"line\":2},\"start\":{\"character\":9,\"line\":2}}}}]}}\n",
+    ),
     (
         "{\"jsonrpc\":\"2.0\",\"method\":\"workspace/didChangeWatchedFiles\",\"params\":{\"changes\":[]}}",
         "{\"jsonrpc\":\"2.0\",\"method\":\"textDocument/publishDiagnostics\",\"params\":{\"diagnostics\":[],\"uri\":\"file:///my%20project/app.wac\",\"version\":2}}\n",
+    ),
+];
+
+/// A client begins that has no folder open, and can be asked to watch files.
+const BEGINS_ALONE: &str =
+    "{\"id\":1,\"jsonrpc\":\"2.0\",\"method\":\"initialize\",\"params\":{\"capabilities\":{\"textDocument\":{\"publishDiagnostics\":{\"relatedInformation\":true}},\"workspace\":{\"didChangeWatchedFiles\":{\"dynamicRegistration\":true}}},\"workspaceFolders\":null}}";
+
+/// The composition and a document of `a:b` without its export are opened; then their folder is opened, closed, and opened
+/// again.
+static FOLDERS: [Row; 8] = [
+    (
+        "{\"jsonrpc\":\"2.0\",\"method\":\"initialized\",\"params\":{}}",
+        "",
+    ),
+    (
+        "{\"jsonrpc\":\"2.0\",\"method\":\"textDocument/didOpen\",\"params\":{\"textDocument\":{\"languageId\":\"wac\",\"text\":\"package a:app;\\nlet x = new a:b { };\\nexport x.f;\\n\",\"uri\":\"file:///my%20project/app.wac\",\"version\":1}}}",
+        "{\"jsonrpc\":\"2.0\",\"method\":\"textDocument/publishDiagnostics\",\"params\":{\"diagnostics\":[],\"uri\":\"file:///my%20project/app.wac\",\"version\":1}}\n",
+    ),
+    (
+        "{\"jsonrpc\":\"2.0\",\"method\":\"textDocument/didOpen\",\"params\":{\"textDocument\":{\"languageId\":\"wac\",\"text\":\"package a:b;\\nworld w { }\\n\",\"uri\":\"file:///my%20project/%62.wac\",\"version\":1}}}",
+        "{\"jsonrpc\":\"2.0\",\"method\":\"textDocument/publishDiagnostics\",\"params\":{\"diagnostics\":[],\"uri\":\"file:///my%20project/%62.wac\",\"version\":1}}\n",
+    ),
+    // The client is asked to watch files now, and what is open stands before its file.
+    (
+        "{\"jsonrpc\":\"2.0\",\"method\":\"workspace/didChangeWorkspaceFolders\",\"params\":{\"event\":{\"added\":[{\"name\":\"p\",\"uri\":\"file:///my%20project/\"},{\"name\":\"p\",\"uri\":\"file:///my%20project\"}],\"removed\":[]}}}",
+        "{\"id\":\"files\",\"jsonrpc\":\"2.0\",\"method\":\"client/registerCapability\",\"params\":{\"registrations\":[{\"id\":\"files\",\"method\":\"workspace/didChangeWatchedFiles\",\"registerOptions\":{\"watchers\":[{\"globPattern\":\"**/*.{wac,wasm}\"}]}}]}}\n\
+         {\"jsonrpc\":\"2.0\",\"method\":\"textDocument/publishDiagnostics\",\"params\":{\"diagnostics\":[{\"code\":\"wac::missing-instance-export\",\"message\":\"the instance has no export named `f`\\n`x` has nothing\",\"range\":{\"end\":{\"character\":10,\"line\":2},\"start\":{\"character\":8,\"line\":2}},\"relatedInformation\":[],\"severity\":1,\"source\":\"wac\"}],\"uri\":\"file:///my%20project/app.wac\",\"version\":1}}\n\
+         {\"jsonrpc\":\"2.0\",\"method\":\"textDocument/publishDiagnostics\",\"params\":{\"diagnostics\":[],\"uri\":\"file:///my%20project/%62.wac\",\"version\":1}}\n",
+    ),
+    // A folder without a URI: nothing is done.
+    (
+        "{\"jsonrpc\":\"2.0\",\"method\":\"workspace/didChangeWorkspaceFolders\",\"params\":{\"event\":{\"added\":[{\"name\":\"p\",\"uri\":3}],\"removed\":[{\"name\":\"p\",\"uri\":\"file:///my%20project\"}]}}}",
+        "",
+    ),
+    (
+        "{\"jsonrpc\":\"2.0\",\"method\":\"workspace/didChangeWorkspaceFolders\",\"params\":{\"event\":{\"added\":[{\"name\":\"p\",\"uri\":\"https://example.org/p\"}],\"removed\":[{\"name\":\"p\",\"uri\":\"file:///my%20project\"}]}}}",
+        "{\"jsonrpc\":\"2.0\",\"method\":\"textDocument/publishDiagnostics\",\"params\":{\"diagnostics\":[],\"uri\":\"file:///my%20project/app.wac\",\"version\":1}}\n\
+         {\"jsonrpc\":\"2.0\",\"method\":\"textDocument/publishDiagnostics\",\"params\":{\"diagnostics\":[],\"uri\":\"file:///my%20project/%62.wac\",\"version\":1}}\n",
+    ),
+    // It was asked before.
+    (
+        "{\"jsonrpc\":\"2.0\",\"method\":\"workspace/didChangeWorkspaceFolders\",\"params\":{\"event\":{\"added\":[{\"name\":\"p\",\"uri\":\"file:///my%20project\"}],\"removed\":[]}}}",
+        "{\"jsonrpc\":\"2.0\",\"method\":\"textDocument/publishDiagnostics\",\"params\":{\"diagnostics\":[{\"code\":\"wac::missing-instance-export\",\"message\":\"the instance has no export named `f`\\n`x` has nothing\",\"range\":{\"end\":{\"character\":10,\"line\":2},\"start\":{\"character\":8,\"line\":2}},\"relatedInformation\":[],\"severity\":1,\"source\":\"wac\"}],\"uri\":\"file:///my%20project/app.wac\",\"version\":1}}\n\
+         {\"jsonrpc\":\"2.0\",\"method\":\"textDocument/publishDiagnostics\",\"params\":{\"diagnostics\":[],\"uri\":\"file:///my%20project/%62.wac\",\"version\":1}}\n",
+    ),
+    (
+        "{\"jsonrpc\":\"2.0\",\"method\":\"textDocument/didClose\",\"params\":{\"textDocument\":{\"uri\":\"file:///my%20project/%62.wac\"}}}",
+        "{\"jsonrpc\":\"2.0\",\"method\":\"textDocument/publishDiagnostics\",\"params\":{\"diagnostics\":[],\"uri\":\"file:///my%20project/%62.wac\"}}\n\
+         {\"jsonrpc\":\"2.0\",\"method\":\"textDocument/publishDiagnostics\",\"params\":{\"diagnostics\":[],\"uri\":\"file:///my%20project/app.wac\",\"version\":1}}\n",
+    ),
+];
+
+/// The document of `a:b` is open, and a change of it is lost.
+static LOST: [Row; 8] = [
+    (
+        "{\"jsonrpc\":\"2.0\",\"method\":\"initialized\",\"params\":{}}",
+        "{\"id\":\"files\",\"jsonrpc\":\"2.0\",\"method\":\"client/registerCapability\",\"params\":{\"registrations\":[{\"id\":\"files\",\"method\":\"workspace/didChangeWatchedFiles\",\"registerOptions\":{\"watchers\":[{\"globPattern\":\"**/*.{wac,wasm}\"}]}}]}}\n",
+    ),
+    (
+        "{\"jsonrpc\":\"2.0\",\"method\":\"textDocument/didOpen\",\"params\":{\"textDocument\":{\"languageId\":\"wac\",\"text\":\"package a:app;\\nlet x = new a:b { };\\nexport x.f;\\n\",\"uri\":\"file:///my%20project/app.wac\",\"version\":1}}}",
+        "{\"jsonrpc\":\"2.0\",\"method\":\"textDocument/publishDiagnostics\",\"params\":{\"diagnostics\":[],\"uri\":\"file:///my%20project/app.wac\",\"version\":1}}\n",
+    ),
+    (
+        "{\"jsonrpc\":\"2.0\",\"method\":\"textDocument/didOpen\",\"params\":{\"textDocument\":{\"languageId\":\"wac\",\"text\":\"package a:b;\\nworld w { }\\n\",\"uri\":\"file:///my%20project/%62.wac\",\"version\":1}}}",
+        "{\"jsonrpc\":\"2.0\",\"method\":\"textDocument/publishDiagnostics\",\"params\":{\"diagnostics\":[{\"code\":\"wac::missing-instance-export\",\"message\":\"the instance has no export named `f`\\n`x` has nothing\",\"range\":{\"end\":{\"character\":10,\"line\":2},\"start\":{\"character\":8,\"line\":2}},\"relatedInformation\":[],\"severity\":1,\"source\":\"wac\"}],\"uri\":\"file:///my%20project/app.wac\",\"version\":1}}\n\
+         {\"jsonrpc\":\"2.0\",\"method\":\"textDocument/publishDiagnostics\",\"params\":{\"diagnostics\":[],\"uri\":\"file:///my%20project/%62.wac\",\"version\":1}}\n",
+    ),
+    // The file of the document stands for itself then.
+    (
+        "{\"jsonrpc\":\"2.0\",\"method\":\"textDocument/didChange\",\"params\":{\"contentChanges\":[{\"text\":3}],\"textDocument\":{\"uri\":\"file:///my%20project/%62.wac\",\"version\":2}}}",
+        "{\"jsonrpc\":\"2.0\",\"method\":\"textDocument/publishDiagnostics\",\"params\":{\"diagnostics\":[{\"message\":\"a change of this document couldn't be read, so its text isn't known here; close it and open it anew\",\"range\":{\"end\":{\"character\":0,\"line\":0},\"start\":{\"character\":0,\"line\":0}},\"severity\":1,\"source\":\"wac\"}],\"uri\":\"file:///my%20project/%62.wac\"}}\n\
+         {\"jsonrpc\":\"2.0\",\"method\":\"textDocument/publishDiagnostics\",\"params\":{\"diagnostics\":[],\"uri\":\"file:///my%20project/app.wac\",\"version\":1}}\n\
+         {\"jsonrpc\":\"2.0\",\"method\":\"textDocument/publishDiagnostics\",\"params\":{\"diagnostics\":[{\"message\":\"a change of this document couldn't be read, so its text isn't known here; close it and open it anew\",\"range\":{\"end\":{\"character\":0,\"line\":0},\"start\":{\"character\":0,\"line\":0}},\"severity\":1,\"source\":\"wac\"}],\"uri\":\"file:///my%20project/%62.wac\"}}\n",
+    ),
+    (
+        "{\"id\":2,\"jsonrpc\":\"2.0\",\"method\":\"textDocument/definition\",\"params\":{\"position\":{\"character\":13,\"line\":1},\"textDocument\":{\"uri\":\"file:///my%20project/app.wac\"}}}",
+        "{\"id\":2,\"jsonrpc\":\"2.0\",\"result\":{\"range\":{\"end\":{\"character\":11,\"line\":0},\"start\":{\"character\":8,\"line\":0}},\"uri\":\"file:///my%20project/b.wac\"}}\n",
+    ),
+    (
+        "{\"id\":3,\"jsonrpc\":\"2.0\",\"method\":\"textDocument/completion\",\"params\":{\"position\":{\"character\":0,\"line\":1},\"textDocument\":{\"uri\":\"file:///my%20project/%62.wac\"}}}",
+        "{\"error\":{\"code\":-32803,\"message\":\"a change of the document couldn't be read; open it anew\"},\"id\":3,\"jsonrpc\":\"2.0\"}\n",
+    ),
+    // Folders are read anew, and its text isn't taken.
+    (
+        "{\"jsonrpc\":\"2.0\",\"method\":\"workspace/didChangeWorkspaceFolders\",\"params\":{\"event\":{\"added\":[],\"removed\":[]}}}",
+        "{\"jsonrpc\":\"2.0\",\"method\":\"textDocument/publishDiagnostics\",\"params\":{\"diagnostics\":[],\"uri\":\"file:///my%20project/app.wac\",\"version\":1}}\n\
+         {\"jsonrpc\":\"2.0\",\"method\":\"textDocument/publishDiagnostics\",\"params\":{\"diagnostics\":[{\"message\":\"a change of this document couldn't be read, so its text isn't known here; close it and open it anew\",\"range\":{\"end\":{\"character\":0,\"line\":0},\"start\":{\"character\":0,\"line\":0}},\"severity\":1,\"source\":\"wac\"}],\"uri\":\"file:///my%20project/%62.wac\"}}\n",
+    ),
+    // A whole text is known again.
+    (
+        "{\"jsonrpc\":\"2.0\",\"method\":\"textDocument/didChange\",\"params\":{\"contentChanges\":[{\"text\":\"package a:b;\\nworld w { }\\n\"}],\"textDocument\":{\"uri\":\"file:///my%20project/%62.wac\",\"version\":3}}}",
+        "{\"jsonrpc\":\"2.0\",\"method\":\"textDocument/publishDiagnostics\",\"params\":{\"diagnostics\":[{\"code\":\"wac::missing-instance-export\",\"message\":\"the instance has no export named `f`\\n`x` has nothing\",\"range\":{\"end\":{\"character\":10,\"line\":2},\"start\":{\"character\":8,\"line\":2}},\"relatedInformation\":[],\"severity\":1,\"source\":\"wac\"}],\"uri\":\"file:///my%20project/app.wac\",\"version\":1}}\n\
+         {\"jsonrpc\":\"2.0\",\"method\":\"textDocument/publishDiagnostics\",\"params\":{\"diagnostics\":[],\"uri\":\"file:///my%20project/%62.wac\",\"version\":3}}\n",
     ),
 ];
 
@@ -104,11 +215,11 @@ fn sent_after(
     Ok(lines)
 }
 
-/// The first message after which something else is sent, with that.
-fn difference(alloc: Global, rows: &[Row]) -> Result<String, ChangeError> {
+/// The first message after which something else is sent, with that, of a client that begins with a message.
+fn difference(alloc: Global, begins: &str, rows: &[Row]) -> Result<String, ChangeError> {
     let mut files = files_of(alloc)?;
     let mut session = Session::new(alloc, "1.2.3");
-    let _ = sent_after(alloc, &mut session, &mut files, BEGINS)?;
+    let _ = sent_after(alloc, &mut session, &mut files, begins)?;
     for (body, wanted) in rows {
         let found = sent_after(alloc, &mut session, &mut files, body)?;
         if found.as_str() != *wanted {
@@ -120,7 +231,25 @@ fn difference(alloc: Global, rows: &[Row]) -> Result<String, ChangeError> {
 
 #[test]
 fn a_session_follows_the_packages_of_its_folder(rt: HostRuntime) -> Result<(), Fail> {
-    match difference(rt.alloc(), ROWS.as_slice()) {
+    match difference(rt.alloc(), BEGINS, ROWS.as_slice()) {
+        Ok(found) => assert!(rt; found.is_empty(), "{found}"),
+        Err(error) => assert!(rt; false, "{error:?}"),
+    }
+    Ok(())
+}
+
+#[test]
+fn a_session_follows_the_folders_of_its_client(rt: HostRuntime) -> Result<(), Fail> {
+    match difference(rt.alloc(), BEGINS_ALONE, FOLDERS.as_slice()) {
+        Ok(found) => assert!(rt; found.is_empty(), "{found}"),
+        Err(error) => assert!(rt; false, "{error:?}"),
+    }
+    Ok(())
+}
+
+#[test]
+fn a_session_follows_files_where_changes_are_lost(rt: HostRuntime) -> Result<(), Fail> {
+    match difference(rt.alloc(), BEGINS, LOST.as_slice()) {
         Ok(found) => assert!(rt; found.is_empty(), "{found}"),
         Err(error) => assert!(rt; false, "{error:?}"),
     }
