@@ -101,7 +101,8 @@ exports.activate = async ({ subscriptions }) => {
     // A setting without a value is an empty text.
     const initializationOptions = { errorsPage: settings.get('errorsPage') || undefined };
     const client = { processId: process.pid, rootUri, workspaceFolders: folders, initializationOptions };
-    await server.request('initialize', { ...client, capabilities: {} });
+    const capabilities = { textDocument: { publishDiagnostics: { codeDescriptionSupport: true } } };
+    await server.request('initialize', { ...client, capabilities });
     server.notify('initialized', {});
     follow(server, subscriptions);
     watch(server, subscriptions);
