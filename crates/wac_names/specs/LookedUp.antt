@@ -2,12 +2,14 @@
 use Rattle.std.specs.Prelude.{◌≡◌, ◌⊎◌, ℕ, ◌+◌, List, [], ◌∷◌, Option, None, Some, IfSome, IsSomeAnd, All, option_map, slice_get}
 use Rattle.std.specs.List.{filter_map}
 use Rattle.wac_lexer.specs.Span.{Span}
+use Rattle.wac_ast_grammar.specs.TextTree.{IsTreeOf}
+use Rattle.wac_ast_grammar.specs.Tree.{Document}
 use Rattle.wac_names.specs.declared.found.Found.{Found}
 use Rattle.wac_names.specs.declared.names.Kind.TheVariants as kinds
 use Rattle.wac_names.specs.declared.names.Mention.{Mention}
 use Rattle.wac_names.specs.declared.names.Name.{Name}
 use Rattle.wac_names.specs.declared.names.Names.{Names}
-use Rattle.wac_names.specs.LookUps.{LookUp, all_found}
+use Rattle.wac_names.specs.LookUps.{LookUp, all_found, document_look_ups}
 
 -- where a mention is, and where the name is bound that it found in a scope; a member is looked up among exports
 abbrev pub said : Mention → Option Found
@@ -47,3 +49,7 @@ mentions_found n (f ∷ fs) = record { span = f.at; binding = n; bound = Some f.
 pub record AreLookedUp (source : List ℕ) (ls : List LookUp) (names : Names) : Type 0 where
   pub found : filter_map said names.mentions.items ≡ all_found source ls
   pub stand : All (λ m. IfSome m.bound (StandsAt names m.binding)) names.mentions.items
+
+-- the text is a document, and the names are those of what it looks up
+abbrev pub AreOfText : List ℕ → Names → Type 0
+AreOfText text names = (doc : Document) × IsTreeOf text doc × AreLookedUp text (document_look_ups doc) names
