@@ -4,3 +4,4 @@ pub mod Taking
 pub mod Finding
 pub mod Bound
 pub mod Alone
+pub mod OfText

@@ -1,7 +1,6 @@
 //! Names in interfaces.
 ghost use Rattle.std.specs.Prelude.{OnOk, flat_map, map};
 ghost use Rattle.wac_ast_worlds.specs.Worlds.{interface_decl_of, interface_export_of, interface_item_of};
-ghost use Rattle.wac_ast.specs.Statements.{type_statement_of};
 ghost use Rattle.wac_names.specs.Steps.{func_ref_steps, interface_item_steps, interface_steps, type_statement_steps};
 ghost use Rattle.wac_ast_grammar.specs.Tree.{TypeStatement};
 ghost use Rattle.wac_names.specs.Traced.{Takes};

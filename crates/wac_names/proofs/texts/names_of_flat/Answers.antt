@@ -1,0 +1,7 @@
+use Rattle.wac_ast.specs.Statements.{document_of}
+use Rattle.wac_names.proofs.OfText.{of_text}
+use Rattle.wac_names.proofs.texts.names_of_flat.Goals as goal
+
+pub returns-in-Ok-clause-names : goal.returns-in-Ok-clause-names
+returns-in-Ok-clause-names c =
+    of_text c.args.text.now (document_of c.in-Ok.document) c.names_in.result c.in-Ok.ensures.found c.names_in.ensures.looked_up
