@@ -61,11 +61,7 @@ fn record<'a>(
 }
 
 /// Notes the names of the type of a case, if it has one.
-fn payload<'a>(
-    finder: &mut Finder<'a>,
-    here: Here,
-    ty: &Option<Type<'a>>,
-) -> Result<(), AllocError>
+fn payload<'a>(finder: &mut Finder<'a>, here: Here, ty: &Option<Type<'a>>) -> Result<(), AllocError>
     ensures { OnOk result (Takes finder.old finder.new (payload_steps here.level (option_map ty_of ty.now))) }
 {
     match ty {
@@ -131,11 +127,7 @@ fn each_flag<'a>(
 }
 
 /// Notes a type of flags.
-fn flags<'a>(
-    finder: &mut Finder<'a>,
-    place: Place,
-    decl: &FlagsDecl<'a>,
-) -> Result<(), AllocError>
+fn flags<'a>(finder: &mut Finder<'a>, place: Place, decl: &FlagsDecl<'a>) -> Result<(), AllocError>
     ensures { OnOk result (Takes finder.old finder.new (Step.binds place.here.level (ident_of decl.now.id) ∷ [])) }
 {
     let binding = finder.declare(&decl.id, Kind::Flags, place.owner)?;
@@ -171,11 +163,7 @@ fn enumeration<'a>(
 }
 
 /// Notes an alias.
-fn alias<'a>(
-    finder: &mut Finder<'a>,
-    place: Place,
-    decl: &TypeAlias<'a>,
-) -> Result<(), AllocError>
+fn alias<'a>(finder: &mut Finder<'a>, place: Place, decl: &TypeAlias<'a>) -> Result<(), AllocError>
     ensures { OnOk result (Takes finder.old finder.new (alias_steps place.here.level (type_alias_of decl.now))) }
 {
     let binding = finder.declare(&decl.id, Kind::Alias, place.owner)?;
@@ -244,10 +232,7 @@ fn resource<'a>(
 }
 
 /// Notes a type that the document declares.
-pub(crate) fn type_decl<'a>(
-    finder: &mut Finder<'a>,
-    decl: &TypeDecl<'a>,
-) -> Result<(), AllocError>
+pub(crate) fn type_decl<'a>(finder: &mut Finder<'a>, decl: &TypeDecl<'a>) -> Result<(), AllocError>
     ensures { OnOk result (Takes finder.old finder.new (type_decl_steps (type_decl_of decl.now))) }
 {
     let place = Place::of_statements();

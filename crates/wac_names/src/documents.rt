@@ -18,8 +18,8 @@ use crate::interfaces::{interface, interface_decl};
 use crate::names::{Kind, Names};
 use crate::paths::{at_root, path};
 use crate::place::{Denoted, Here};
-use crate::steps::Level;
 use crate::standing::standing_names;
+use crate::steps::Level;
 use crate::types::function;
 use crate::worlds::world_decl;
 use std::alloc::{AllocError, Global};
@@ -123,10 +123,7 @@ fn all_statements<'a>(finder: &mut Finder<'a>, all: Statements<'_, 'a>) -> Resul
 }
 
 /// Notes the names of the target, if there is one: what its first segment denotes after all statements.
-fn target<'a>(
-    finder: &mut Finder<'a>,
-    targets: &Option<PackagePath<'a>>,
-) -> Result<(), AllocError>
+fn target<'a>(finder: &mut Finder<'a>, targets: &Option<PackagePath<'a>>) -> Result<(), AllocError>
     ensures { OnOk result (Takes finder.old finder.new (target_steps (option_map package_path_of targets.now))) }
 {
     match targets {

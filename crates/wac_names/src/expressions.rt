@@ -28,10 +28,7 @@ pub(crate) fn expression<'a>(
 /// Notes the names of the beginning of an expression, and returns the scope behind it. What a new instance exports is
 /// declared in another package.
 #[cycle(expression)]
-fn primary<'a>(
-    finder: &mut Finder<'a>,
-    expr: &PrimaryExpr<'a>,
-) -> Result<Option<usize>, AllocError>
+fn primary<'a>(finder: &mut Finder<'a>, expr: &PrimaryExpr<'a>) -> Result<Option<usize>, AllocError>
     ensures { OnOk result (Takes finder.old finder.new (primary_steps (primary_expr_of expr.now))) }
 {
     match expr {

@@ -34,7 +34,10 @@ fn found_by(own: &str, scopes: &Scopes<'_>, step: &StepTaken<'_>) -> Option<Foun
 {
     match step {
         StepTaken::LooksUp(level, id) => found_at(id.span, scopes.find(*level, id.string)),
-        StepTaken::LooksOutwards(level, id) => found_at(id.span, scopes.find_outwards(*level, id.string)),
+        StepTaken::LooksOutwards(level, id) => found_at(
+            id.span,
+            scopes.find_outwards(*level, id.string),
+        ),
         StepTaken::Enters(name, id) => {
             if *name == own {
                 found_at(id.span, scopes.find(Level::Root, id.string))

@@ -142,7 +142,8 @@ impl<'a> Scopes<'a> {
                 Ok(())
             }
             StepTaken::Binds(level, id) => self.bind(*level, id),
-            StepTaken::LooksUp(_, _) | StepTaken::LooksOutwards(_, _) | StepTaken::Enters(_, _) => Ok(()),
+            StepTaken::LooksUp(_, _) | StepTaken::LooksOutwards(_, _) | StepTaken::Enters(_, _) =>
+                Ok(()),
         }
     }
 }

@@ -80,7 +80,8 @@ fn bytes_without_percent(bytes: &[u8]) -> &[u8]
 pub(crate) fn is_same_name(source: &str, first: SourceSpan, second: SourceSpan) -> bool
     ensures { result ≡ same_name source.now first second }
 {
-    bytes_without_percent(bytes_in(source, first)) == bytes_without_percent(bytes_in(source, second))
+    bytes_without_percent(bytes_in(source, first))
+        == bytes_without_percent(bytes_in(source, second))
 }
 
 /// Whether a mention stands for one of these names, and is spelled like it.

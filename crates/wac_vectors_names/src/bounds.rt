@@ -80,7 +80,10 @@ fn are_marked(marks: &[Mark], mentions: &[Mention]) -> bool {
         }
     }
     let uses = marks.iter().filter(|mark| !mark.is_binding).count();
-    let found = mentions.iter().filter(|mention| mention.bound.is_some()).count();
+    let found = mentions
+        .iter()
+        .filter(|mention| mention.bound.is_some())
+        .count();
     uses == found
 }
 
