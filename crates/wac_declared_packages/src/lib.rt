@@ -27,5 +27,6 @@ mod supplying;
 pub use declaration::declared_package;
 pub use error::{DeclarationError, DeclarationFault};
 pub use many::{Declared, declare_all, declared_packages};
+pub use rules::NoRules;
 pub use supplying::supplied_packages;
 pub use wac_graph_packages::copied_package;

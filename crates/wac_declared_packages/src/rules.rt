@@ -2,9 +2,16 @@
 
 use wac_graph::{ItemKind, Reason, Rules, Types};
 
-/// Each kind fits, and each name may be used.
+/// Rules that reject nothing: each kind fits, and each name may be used.
+///
+/// By them a document of type statements has the graph that it has by any rules, and a document with a kind that doesn't
+/// fit has a graph all the same:
+///
+/// ```text
+/// match resolve(alloc, document, packages, &NoRules) { .. }
+/// ```
 #[derive(Clone, Copy, Debug)]
-pub(crate) struct NoRules;
+pub struct NoRules;
 
 impl Rules for NoRules {
     ghost use Rattle.std.specs.Prelude.{None, refl};

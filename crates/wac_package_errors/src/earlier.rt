@@ -1,11 +1,11 @@
 //! The graph of a part of a document, which helps to say what is wrong in another part.
 
 use crate::context::Context;
-use crate::rules::NoRules;
 use std::alloc::{AllocError, Global};
 use wac_ast::Document;
 use wac_composition::graph_with;
 use wac_declaration_errors::end_of;
+use wac_declared_packages::NoRules;
 use wac_graph::CompositionGraph;
 use wac_lexer::SourceSpan;
 use wac_printer::Page;

@@ -20,7 +20,6 @@ mod first;
 mod helps;
 mod items;
 mod mismatches;
-mod rules;
 mod sources;
 mod spreads;
 mod targets;
