@@ -35,6 +35,7 @@ fn promoted(graph: &CompositionGraph, kind: ItemKind) -> ItemKind
     requires { Names graph.now.types kind }
     ensures { Names graph.now.types result }
 {
+    // Its contract says that the table is sound, which the proof alone needs.
     let _types = graph.types();
     kind.promote()
 }
