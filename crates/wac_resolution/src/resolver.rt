@@ -53,9 +53,9 @@ impl<'d, 'a> AstResolver<'d, 'a> {
     }
 
     /// The packages that the document mentions, each with the place of its first mention.
-    fn first_mentions(&self, alloc: Global) -> Result<IndexMap<PackageKey, SourceSpan>, AllocError>
-        ensures first { IfOk result (λ m. AreFirst (mentions (document_of self.now)) (mentions_in m.entries)) }
-        ensures matter { IfOk result (λ m. OnlyTheseMatter (document_of self.now) (mentions_in m.entries)) }
+    fn first_mentions(self, alloc: Global) -> Result<IndexMap<PackageKey, SourceSpan>, AllocError>
+        ensures first { IfOk result (λ m. AreFirst (mentions (document_of self.entry)) (mentions_in m.entries)) }
+        ensures matter { IfOk result (λ m. OnlyTheseMatter (document_of self.entry) (mentions_in m.entries)) }
     {
         let AstResolver { document } = self;
         packages(alloc, document)
@@ -99,7 +99,8 @@ impl<'d, 'a> AstResolver<'d, 'a> {
         // What is returned is the document's resolution, and as it describes; an error names the first rule that it breaks.
         ensures { Resolves packages.entries (rules_of R.Rules rules.now) self.entry result }
     {
-        let mentioned = self.first_mentions(alloc)?;
+        // A resolver of its own, since lending this one is beyond the prover's limit.
+        let mentioned = AstResolver::new(self.document).first_mentions(alloc)?;
         let kept = keep_mentioned(packages, &mentioned);
         self.resolve_with(alloc, kept, rules)
     }

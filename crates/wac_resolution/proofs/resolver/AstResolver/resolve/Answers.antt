@@ -1,7 +1,7 @@
-use Rattle.wac_resolution.proofs.Common.{[], inl, IfOk-weaker, err_from_is_err_and, document_of, mentions_in, rules_of, mentions, memory_told}
+use Rattle.wac_resolution.proofs.Common.{◌∙◌, [], inl, IfOk-weaker, err_from_is_err_and, document_of, mentions_in, rules_of, mentions, memory_told}
 use Rattle.wac_resolution.specs.Resolved.{HoldsMentioned, HoldsSupplied}
 use Rattle.wac_resolution.proofs.Alike.{error_is_right, result_is_right}
-use Rattle.wac_resolution.proofs.Kept.{IsKept, holds_mentioned, holds_supplied, promised_first, promised_graph, promised_only}
+use Rattle.wac_resolution.proofs.Kept.{holds_mentioned, holds_supplied, kept_for, promised_first, promised_graph, promised_only}
 use Rattle.wac_resolution.proofs.resolver.AstResolver.resolve.Goals as goal
 
 pub returns-in_err-mentioned : goal.returns-in_err-mentioned
@@ -25,12 +25,9 @@ returns g c =
     let others = c.keep_mentioned-kept.result.entries in
     let rules = rules_of g.R.Rules c.args.rules.now in
     let result = c.resolve_with.result in
-    let is_kept : IsKept doc packages others = record {
-      these = mentions_in c.in_ok-mentioned.mentioned.entries;
-      first = c.in_ok-mentioned.ensures.first;
-      matter = c.in_ok-mentioned.ensures.matter;
-      are = c.keep_mentioned-kept.ensures;
-    } in
+    let is_kept =
+    kept_for c.new.result c.args.self packages others (mentions_in c.in_ok-mentioned.mentioned.entries) (c.new.ensures ∙ c.self.view_is)
+    c.in_ok-mentioned.ensures.first c.in_ok-mentioned.ensures.matter c.keep_mentioned-kept.ensures in
     record {
       document = c.resolve_with.ensures.document;
       held = IfOk-weaker result (λ r. HoldsSupplied others r.graph) (λ r. HoldsMentioned (mentions doc) r.graph) (λ r. holds_mentioned doc packages others r.graph is_kept) c.resolve_with.ensures.supplied;
