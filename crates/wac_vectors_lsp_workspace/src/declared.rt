@@ -34,7 +34,8 @@ fn declaration_line(alloc: Global, declaration: &Declaration<'_>) -> Result<Stri
         .text
         .get(declaration.span.offset()..)
         .unwrap_or("");
-    let (declared, behind) = rest.split_at(declaration.span.len());
+    let declared = rest.get(..declaration.span.len()).unwrap_or("");
+    let behind = rest.get(declaration.span.len()..).unwrap_or("");
     let (line, _) = behind.split_once('\n').unwrap_or((behind, ""));
     format!(in alloc; "{name} {declared}|{line}")
 }
@@ -191,8 +192,8 @@ fn said_of(alloc: Global, text: &str, found: &Described<'_>) -> Result<String, A
     let Some(hover) = declared_hover(alloc, found.text, found.span, found.at)? else {
         return String::from_str(alloc, "nothing");
     };
-    let (_, rest) = text.split_at(hover.at.offset());
-    let (name, _) = rest.split_at(hover.at.len());
+    let end = hover.at.offset().saturating_add(hover.at.len());
+    let name = text.get(hover.at.offset()..end).unwrap_or("");
     let declaration = hover.declaration.as_str();
     let docs = hover.docs.as_str();
     format!(in alloc; "{name}: {declaration} / {docs}")
