@@ -1,1 +1,4 @@
+pub mod Each
 pub mod Found
+pub mod Refusing
+pub mod Telling

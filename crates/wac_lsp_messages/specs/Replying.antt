@@ -1,8 +1,10 @@
 -- What replies are.
-use Rattle.std.specs.Prelude.{◌≡◌, ◌≤◌, ℕ, List, Option, Some, None, IsSome, codes, string_bytes}
+use Rattle.std.specs.Prelude.{◌≡◌, ◌≤◌, ℕ, ℤ, pos, neg_ℤ, List, Option, Some, None, codes, string_bytes}
 use Rattle.serde_json.specs.Data.{Data, null, number, string, depth}
 use Rattle.serde_json.specs.Find.{get, of_integer}
 use Rattle.serde_json.specs.Read.{read, max_depth}
+use Rattle.wac_lsp_messages.specs.declared.refusal.Code.{Code}
+use Rattle.wac_lsp_messages.specs.declared.refusal.Code.TheVariants as refusals
 use Rattle.wac_lsp_messages.specs.declared.id.Id.{Id}
 use Rattle.wac_lsp_messages.specs.declared.id.Id.TheVariants as ids
 
@@ -29,9 +31,25 @@ pub record IsResult (result : Data) (text : List ℕ) : Type 0 where
   pub no_error : get (codes "error") message ≡ None
   pub reads_back : depth message ≤ max_depth → read text ≡ Some message
 
--- The text is a reply with an error, and with no result, in the same way.
-pub record IsRefusal (text : List ℕ) : Type 0 where
+-- the number of a code: those of JSON-RPC, and two of the protocol of language servers
+abbrev pub number_of : Code → ℤ
+number_of refusals.ParseError = neg_ℤ (pos 32700)
+number_of refusals.InvalidRequest = neg_ℤ (pos 32600)
+number_of refusals.MethodNotFound = neg_ℤ (pos 32601)
+number_of refusals.InvalidParams = neg_ℤ (pos 32602)
+number_of refusals.InternalError = neg_ℤ (pos 32603)
+number_of refusals.NotInitialized = neg_ℤ (pos 32002)
+number_of refusals.RequestFailed = neg_ℤ (pos 32803)
+
+-- an error has this code
+abbrev pub HasCode : Code → Data → Type 0
+HasCode code error = get (codes "code") error ≡ Some (number (of_integer (number_of code)))
+
+-- The text is a reply with an error of this code, and with no result, in the same way.
+pub record IsRefusal (code : Code) (text : List ℕ) : Type 0 where
   pub message : Data
-  pub has : IsSome (get (codes "error") message)
+  pub error : Data
+  pub has : get (codes "error") message ≡ Some error
+  pub coded : HasCode code error
   pub no_result : get (codes "result") message ≡ None
   pub reads_back : depth message ≤ max_depth → read text ≡ Some message

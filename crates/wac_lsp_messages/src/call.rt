@@ -1,4 +1,8 @@
 //! Requests of a client.
+ghost use Rattle.std.specs.Prelude.{◌≡◌, IfOk, codes, is_some};
+ghost use Rattle.serde_json.specs.View.{view};
+ghost use Rattle.wac_lsp_messages.specs.Calls.{IsCallOf, IsDocumentRead, has_capabilities};
+
 use crate::features::{Features, read_features};
 use crate::fields::{field, owned_text, text, uri};
 use crate::question::{INVALID_PARAMS, Question, read_question};
@@ -76,7 +80,9 @@ fn errors_page(alloc: Global, params: &Value) -> Result<Option<String>, AllocErr
 }
 
 /// The capabilities of a client, if they are an object.
-fn capabilities_in(params: &Value) -> Option<&Value> {
+fn capabilities_in(params: &Value) -> Option<&Value>
+    ensures { is_some result ≡ has_capabilities (view params.now) }
+{
     let capabilities = field(params, "capabilities")?;
     if capabilities.is_object() {
         Some(capabilities)
@@ -86,7 +92,9 @@ fn capabilities_in(params: &Value) -> Option<&Value> {
 }
 
 /// What a client says of itself, if the parameters have its capabilities.
-fn read_initialize(alloc: Global, params: &Value) -> Result<Option<Initialize>, AllocError> {
+fn read_initialize(alloc: Global, params: &Value) -> Result<Option<Initialize>, AllocError>
+    ensures { IfOk result (λ said. is_some said ≡ has_capabilities (view params.now)) }
+{
     let Some(capabilities) = capabilities_in(params) else {
         return Ok(None);
     };
@@ -99,7 +107,10 @@ fn read_initialize(alloc: Global, params: &Value) -> Result<Option<Initialize>, 
 }
 
 /// What open documents declare.
-fn read_workspace_symbols(alloc: Global, params: &Value) -> Result<CallResult, AllocError> {
+#[tactic(auto, using(crate::proofs::Refusing::symbols_of_nothing))]
+fn read_workspace_symbols(alloc: Global, params: &Value) -> Result<CallResult, AllocError>
+    ensures { IfOk result (IsCallOf (codes "workspace/symbol") (view params.now)) }
+{
     match owned_text(alloc, params, "query")? {
         Some(query) => Ok(Ok(Call::WorkspaceSymbols { query })),
         None => Ok(Err(INVALID_PARAMS)),
@@ -107,7 +118,9 @@ fn read_workspace_symbols(alloc: Global, params: &Value) -> Result<CallResult, A
 }
 
 /// Something of a document.
-fn read_about(alloc: Global, method: &str, params: &Value) -> Result<CallResult, AllocError> {
+fn read_about(alloc: Global, method: &str, params: &Value) -> Result<CallResult, AllocError>
+    ensures { IfOk result (IsDocumentRead method.now (view params.now)) }
+{
     let question = match read_question(alloc, method, params)? {
         Ok(question) => question,
         Err(why) => return Ok(Err(why)),
@@ -123,7 +136,9 @@ pub(crate) fn read_call(
     alloc: Global,
     method: &str,
     params: &Value,
-) -> Result<CallResult, AllocError> {
+) -> Result<CallResult, AllocError>
+    ensures { IfOk result (IsCallOf method.now (view params.now)) }
+{
     match method {
         "initialize" => Ok(Ok(Call::Initialize(read_initialize(alloc, params)?))),
         "shutdown" => Ok(Ok(Call::Shutdown)),

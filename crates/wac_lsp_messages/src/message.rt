@@ -1,8 +1,10 @@
 //! The messages of a client.
-ghost use Rattle.std.specs.Prelude.{◌≡◌, IfOk, IsTrue, IsUtf8, Some, codes, option_map};
+ghost use Rattle.std.specs.Prelude.{◌≡◌, IfOk, IsUtf8, None, Some, codes, option_map};
+ghost use Rattle.serde_json.specs.Data.{null};
 ghost use Rattle.serde_json.specs.Read.{read};
 ghost use Rattle.serde_json.specs.View.{view};
-ghost use Rattle.wac_lsp_messages.specs.Meaning.{HasOutcome, IsMessageIn, IsMessageOf, text_in};
+ghost use Rattle.wac_lsp_messages.specs.Meaning.{IsMessageIn, IsMessageOf, has_outcome, params_of};
+ghost use Rattle.wac_lsp_messages.specs.Reading.{text_in};
 
 use crate::call::{Call, read_call};
 use crate::fields::{field, text};
@@ -81,23 +83,26 @@ fn message_of(alloc: Global, value: &Value) -> Result<Message, AllocError>
 {
     match text(value, "method") {
         Some(method) => sent(alloc, value, method),
-        None if is_reply(value) => Ok(Message::Reply),
         None => without_method(alloc, value),
     }
 }
 
 /// Whether a value says what became of a request.
 fn is_reply(value: &Value) -> bool
-    ensures { IsTrue result → HasOutcome (view value.now) }
+    ensures { result ≡ has_outcome (view value.now) }
 {
     field(value, "result").is_some() || field(value, "error").is_some()
 }
 
-/// An object without a method: a request that can't be one, if it has an id.
-#[tactic(auto, using(crate::proofs::Found::request_with, crate::proofs::Found::wrong_with, crate::proofs::Found::wrong_without))]
+/// What has no method: a reply, or a request that can't be one, if it has an id.
+#[tactic(auto, using(crate::proofs::Found::request_without, crate::proofs::Found::wrong_without_method, crate::proofs::Found::wrong_without_id))]
 fn without_method(alloc: Global, value: &Value) -> Result<Message, AllocError>
+    requires { text_in (codes "method") (view value.now) ≡ None }
     ensures { IfOk result (λ message. IsMessageOf (view value.now) message) }
 {
+    if is_reply(value) {
+        return Ok(Message::Reply);
+    }
     match field(value, "id") {
         Some(id) => match Id::of(alloc, id)? {
             Some(id) => Ok(Message::Request {
@@ -110,6 +115,17 @@ fn without_method(alloc: Global, value: &Value) -> Result<Message, AllocError>
     }
 }
 
+/// The parameters of a message: `nothing` where it has none.
+fn params_of<'v>(message: &'v Value, nothing: &'v Value) -> &'v Value
+    requires { view nothing.now ≡ null }
+    ensures { view result.now ≡ params_of (view message.now) }
+{
+    match field(message, "params") {
+        Some(params) => params,
+        None => nothing,
+    }
+}
+
 /// A request or a notification of this method.
 #[tactic(auto, using(crate::proofs::Found::request_with, crate::proofs::Found::notification_with, crate::proofs::Found::wrong_with))]
 fn sent(alloc: Global, value: &Value, method: &str) -> Result<Message, AllocError>
@@ -117,7 +133,7 @@ fn sent(alloc: Global, value: &Value, method: &str) -> Result<Message, AllocErro
     ensures { IfOk result (λ message. IsMessageOf (view value.now) message) }
 {
     let nothing = Value::Null;
-    let params = field(value, "params").unwrap_or(&nothing);
+    let params = params_of(value, &nothing);
     match field(value, "id") {
         Some(id) => match Id::of(alloc, id)? {
             Some(id) => Ok(Message::Request {

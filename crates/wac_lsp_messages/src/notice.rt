@@ -1,5 +1,10 @@
 //! Notifications of a client.
-use crate::fields::{count, field, owned_text, uri};
+ghost use Rattle.std.specs.Prelude.{◌≡◌, IfOk, Some, codes, map, option_map, string_bytes};
+ghost use Rattle.serde_json.specs.View.{view};
+ghost use Rattle.wac_lsp_messages.specs.Notices.{IsNoticeOf, change_of, changes_in, folders_in, replaced, said};
+ghost use Rattle.wac_lsp_messages.specs.Reading.{place_of, range_of, uri_in, version_in};
+
+use crate::fields::{count, document_text, field, owned_text, uri};
 use serde_json::Value;
 use std::alloc::{AllocError, Global};
 use wac_positions::Place;
@@ -71,7 +76,9 @@ pub enum Notice {
 }
 
 /// The place that a value is.
-pub(crate) fn read_place(value: &Value) -> Option<Place> {
+pub(crate) fn read_place(value: &Value) -> Option<Place>
+    ensures { result ≡ place_of (view value.now) }
+{
     Some(Place {
         line: count(value, "line")?,
         column: count(value, "character")?,
@@ -79,7 +86,9 @@ pub(crate) fn read_place(value: &Value) -> Option<Place> {
 }
 
 /// The range that a value is.
-pub(crate) fn read_range(value: &Value) -> Option<Range> {
+pub(crate) fn read_range(value: &Value) -> Option<Range>
+    ensures { result ≡ range_of (view value.now) }
+{
     Some(Range {
         start: read_place(field(value, "start")?)?,
         end: read_place(field(value, "end")?)?,
@@ -87,27 +96,40 @@ pub(crate) fn read_range(value: &Value) -> Option<Range> {
 }
 
 /// The version of a document.
-fn read_version(params: &Value) -> Option<i64> {
+fn read_version(params: &Value) -> Option<i64>
+    ensures { result ≡ version_in (view params.now) }
+{
     field(field(params, "textDocument")?, "version")?.as_i64()
 }
 
+/// What a change replaces, of the range that it has, if that is one. One of `null` is as none.
+fn read_replaced(given: Option<&Value>) -> Option<Option<Range>>
+    ensures { result ≡ replaced (option_map (λ it. view it.now) given.entry) }
+{
+    match given {
+        Some(Value::Null) | None => Some(None),
+        Some(given) => Some(Some(read_range(given)?)),
+    }
+}
+
 /// The change that a value is. A range that is none makes it none.
-fn read_change(alloc: Global, value: &Value) -> Result<Option<Change>, AllocError> {
-    let found = match field(value, "range") {
-        Some(Value::Null) | None => None,
-        Some(given) => match read_range(given) {
-            Some(range) => Some(range),
-            None => return Ok(None),
-        },
+fn read_change(alloc: Global, value: &Value) -> Result<Option<Change>, AllocError>
+    ensures { IfOk result (λ found. option_map said found ≡ change_of (view value.now)) }
+{
+    let given = field(value, "range");
+    let Some(range) = read_replaced(given) else {
+        return Ok(None);
     };
     match owned_text(alloc, value, "text")? {
-        Some(text) => Ok(Some(Change { range: found, text })),
+        Some(text) => Ok(Some(Change { range, text })),
         None => Ok(None),
     }
 }
 
 /// The changes of a notice, if each value is one.
-fn read_changes(alloc: Global, params: &Value) -> Result<Option<Vec<Change>>, AllocError> {
+fn read_changes(alloc: Global, params: &Value) -> Result<Option<Vec<Change>>, AllocError>
+    ensures { IfOk result (λ found. option_map (λ all. map said all.items) found ≡ changes_in (view params.now)) }
+{
     let Some(Value::Array(values)) = field(params, "contentChanges") else {
         return Ok(None);
     };
@@ -122,24 +144,27 @@ fn read_changes(alloc: Global, params: &Value) -> Result<Option<Vec<Change>>, Al
 }
 
 /// That a document was opened.
-fn read_opened(alloc: Global, params: &Value) -> Result<Option<Notice>, AllocError> {
+#[tactic(auto, using(crate::proofs::Telling::opened_no_version, crate::proofs::Telling::opened_no_text, crate::proofs::Telling::opened_no_uri))]
+fn read_opened(alloc: Global, params: &Value) -> Result<Notice, AllocError>
+    ensures { IfOk result (IsNoticeOf (codes "textDocument/didOpen") (view params.now)) }
+{
     let Some(version) = read_version(params) else {
-        return Ok(None);
+        return Ok(Notice::Other);
     };
-    let Some(document) = field(params, "textDocument") else {
-        return Ok(None);
-    };
-    let Some(text) = owned_text(alloc, document, "text")? else {
-        return Ok(None);
+    let Some(text) = document_text(alloc, params, "text")? else {
+        return Ok(Notice::Other);
     };
     match uri(alloc, params)? {
-        Some(uri) => Ok(Some(Notice::Opened { uri, version, text })),
-        None => Ok(None),
+        Some(uri) => Ok(Notice::Opened { uri, version, text }),
+        None => Ok(Notice::Other),
     }
 }
 
 /// That a document of this name was changed: lost, where the version or one of the changes is none.
-fn read_changes_of(alloc: Global, params: &Value, uri: String) -> Result<Notice, AllocError> {
+fn read_changes_of(alloc: Global, params: &Value, uri: String) -> Result<Notice, AllocError>
+    requires { uri_in (view params.now) ≡ Some (string_bytes uri) }
+    ensures { IfOk result (IsNoticeOf (codes "textDocument/didChange") (view params.now)) }
+{
     let Some(version) = read_version(params) else {
         return Ok(Notice::Lost { uri });
     };
@@ -154,27 +179,39 @@ fn read_changes_of(alloc: Global, params: &Value, uri: String) -> Result<Notice,
 }
 
 /// That a document was changed.
-fn read_changed(alloc: Global, params: &Value) -> Result<Option<Notice>, AllocError> {
+#[tactic(auto, using(crate::proofs::Telling::changed_no_uri))]
+fn read_changed(alloc: Global, params: &Value) -> Result<Notice, AllocError>
+    ensures { IfOk result (IsNoticeOf (codes "textDocument/didChange") (view params.now)) }
+{
     match uri(alloc, params)? {
-        Some(uri) => Ok(Some(read_changes_of(alloc, params, uri)?)),
-        None => Ok(None),
+        Some(uri) => read_changes_of(alloc, params, uri),
+        None => Ok(Notice::Other),
     }
 }
 
 /// That a document was closed.
-fn read_closed(alloc: Global, params: &Value) -> Result<Option<Notice>, AllocError> {
+#[tactic(auto, using(crate::proofs::Telling::closed_no_uri))]
+fn read_closed(alloc: Global, params: &Value) -> Result<Notice, AllocError>
+    ensures { IfOk result (IsNoticeOf (codes "textDocument/didClose") (view params.now)) }
+{
     match uri(alloc, params)? {
-        Some(uri) => Ok(Some(Notice::Closed { uri })),
-        None => Ok(None),
+        Some(uri) => Ok(Notice::Closed { uri }),
+        None => Ok(Notice::Other),
     }
 }
 
-/// The URIs of the folders that a field lists, if each value there has one.
+/// The URIs of the folders that a field of the event lists, if each value there has one.
 fn read_folders(
     alloc: Global,
-    event: &Value,
+    params: &Value,
     name: &str,
-) -> Result<Option<Vec<String>>, AllocError> {
+) -> Result<Option<Vec<String>>, AllocError>
+    ensures { IfOk result (λ found. option_map (λ all. map string_bytes all.items) found
+        ≡ folders_in name.now (view params.now)) }
+{
+    let Some(event) = field(params, "event") else {
+        return Ok(None);
+    };
     let Some(Value::Array(folders)) = field(event, name) else {
         return Ok(None);
     };
@@ -189,34 +226,31 @@ fn read_folders(
 }
 
 /// That the client has other folders open.
-fn read_folders_changed(alloc: Global, params: &Value) -> Result<Option<Notice>, AllocError> {
-    let Some(event) = field(params, "event") else {
-        return Ok(None);
+#[tactic(auto, using(crate::proofs::Telling::folders_none_added, crate::proofs::Telling::folders_none_removed))]
+fn read_folders_changed(alloc: Global, params: &Value) -> Result<Notice, AllocError>
+    ensures { IfOk result (IsNoticeOf (codes "workspace/didChangeWorkspaceFolders") (view params.now)) }
+{
+    let Some(added) = read_folders(alloc, params, "added")? else {
+        return Ok(Notice::Other);
     };
-    let Some(added) = read_folders(alloc, event, "added")? else {
-        return Ok(None);
-    };
-    match read_folders(alloc, event, "removed")? {
-        Some(removed) => Ok(Some(Notice::FoldersChanged { added, removed })),
-        None => Ok(None),
+    match read_folders(alloc, params, "removed")? {
+        Some(removed) => Ok(Notice::FoldersChanged { added, removed }),
+        None => Ok(Notice::Other),
     }
 }
 
 /// What a notification of this method tells.
-pub(crate) fn read_notice(
-    alloc: Global,
-    method: &str,
-    params: &Value,
-) -> Result<Notice, AllocError> {
-    let found = match method {
-        "initialized" => Some(Notice::Initialized),
-        "exit" => Some(Notice::Exit),
-        "textDocument/didOpen" => read_opened(alloc, params)?,
-        "textDocument/didChange" => read_changed(alloc, params)?,
-        "textDocument/didClose" => read_closed(alloc, params)?,
-        "workspace/didChangeWatchedFiles" => Some(Notice::FilesChanged),
-        "workspace/didChangeWorkspaceFolders" => read_folders_changed(alloc, params)?,
-        _ => None,
-    };
-    Ok(found.unwrap_or(Notice::Other))
+pub(crate) fn read_notice(alloc: Global, method: &str, params: &Value) -> Result<Notice, AllocError>
+    ensures { IfOk result (IsNoticeOf method.now (view params.now)) }
+{
+    match method {
+        "initialized" => Ok(Notice::Initialized),
+        "exit" => Ok(Notice::Exit),
+        "textDocument/didOpen" => read_opened(alloc, params),
+        "textDocument/didChange" => read_changed(alloc, params),
+        "textDocument/didClose" => read_closed(alloc, params),
+        "workspace/didChangeWatchedFiles" => Ok(Notice::FilesChanged),
+        "workspace/didChangeWorkspaceFolders" => read_folders_changed(alloc, params),
+        _ => Ok(Notice::Other),
+    }
 }

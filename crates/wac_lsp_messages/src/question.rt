@@ -1,7 +1,13 @@
 //! What a client asks of a document.
-use crate::fields::{count, field};
+ghost use Rattle.std.specs.Prelude.{◌≡◌, IfOk, codes, option_map};
+ghost use Rattle.serde_json.specs.View.{view};
+ghost use Rattle.wac_lsp_messages.specs.Calls.{IsPlaceRead, IsTopicRead, options_in, positions_in};
+ghost use Rattle.wac_lsp_messages.specs.Reading.{range_in};
+
+use crate::fields::{count, field, flag};
 use crate::navigation::{
-    read_definition, read_highlights, read_hover, read_prepare_rename, read_references, read_rename,
+    read_completions, read_definition, read_highlights, read_hover, read_prepare_rename,
+    read_references, read_rename,
 };
 use crate::notice::{Range, read_place, read_range};
 use crate::refusal::{Code, Refusal};
@@ -67,41 +73,64 @@ const NO_METHOD: Refusal = Refusal {
 };
 
 /// How a document is to be laid out.
-fn read_options(params: &Value) -> Option<FormattingOptions> {
+fn read_options(params: &Value) -> Option<FormattingOptions>
+    ensures { result ≡ options_in (view params.now) }
+{
     let options = field(params, "options")?;
     Some(FormattingOptions {
         tab_size: count(options, "tabSize")?,
-        insert_spaces: field(options, "insertSpaces")?.as_bool()?,
+        insert_spaces: flag(options, "insertSpaces")?,
     })
 }
 
+/// The part of a document that a question is about.
+fn read_part(params: &Value) -> Option<Range>
+    ensures { result ≡ range_in (codes "range") (view params.now) }
+{
+    read_range(field(params, "range")?)
+}
+
 /// The edits that lay out a document.
-fn read_formatting(params: &Value) -> Option<Question> {
-    let options = read_options(params)?;
-    Some(Question::Formatting(options))
+#[tactic(auto, using(crate::proofs::Refusing::formatting_anyhow))]
+fn read_formatting(params: &Value) -> QuestionResult
+    ensures { IsTopicRead (codes "textDocument/formatting") (view params.now) result }
+{
+    match read_options(params) {
+        Some(options) => Ok(Question::Formatting(options)),
+        None => Err(INVALID_PARAMS),
+    }
 }
 
 /// The edits that lay out a part of a document.
-fn read_range_formatting(params: &Value) -> Option<Question> {
-    let options = read_options(params)?;
-    let range = read_range(field(params, "range")?)?;
-    Some(Question::RangeFormatting(range, options))
+#[tactic(auto, using(crate::proofs::Refusing::range_formatting_anyhow, crate::proofs::Refusing::range_formatting_nowhere))]
+fn read_range_formatting(params: &Value) -> QuestionResult
+    ensures { IsTopicRead (codes "textDocument/rangeFormatting") (view params.now) result }
+{
+    let Some(options) = read_options(params) else {
+        return Err(INVALID_PARAMS);
+    };
+    match read_part(params) {
+        Some(range) => Ok(Question::RangeFormatting(range, options)),
+        None => Err(INVALID_PARAMS),
+    }
 }
 
 /// What mends a part of a document.
-fn read_actions(params: &Value) -> Option<Question> {
-    let range = read_range(field(params, "range")?)?;
-    Some(Question::CodeActions(range))
-}
-
-/// What can stand at a place of a document.
-fn read_completions(params: &Value) -> Option<Question> {
-    let place = read_place(field(params, "position")?)?;
-    Some(Question::Completions(place))
+#[tactic(auto, using(crate::proofs::Refusing::code_actions_nowhere))]
+fn read_actions(params: &Value) -> QuestionResult
+    ensures { IsTopicRead (codes "textDocument/codeAction") (view params.now) result }
+{
+    match read_part(params) {
+        Some(range) => Ok(Question::CodeActions(range)),
+        None => Err(INVALID_PARAMS),
+    }
 }
 
 /// The places of a question, if each value is one.
-fn read_places(alloc: Global, params: &Value) -> Result<Option<Vec<Place>>, AllocError> {
+#[tactic(auto, using(crate::proofs::Each::each_same_ends))]
+fn read_places(alloc: Global, params: &Value) -> Result<Option<Vec<Place>>, AllocError>
+    ensures { IfOk result (λ found. option_map (λ all. all.items) found ≡ positions_in (view params.now)) }
+{
     let Some(Value::Array(values)) = field(params, "positions") else {
         return Ok(None);
     };
@@ -116,18 +145,13 @@ fn read_places(alloc: Global, params: &Value) -> Result<Option<Vec<Place>>, Allo
 }
 
 /// What is around places of a document.
-fn read_selections(alloc: Global, params: &Value) -> Result<QuestionResult, AllocError> {
+#[tactic(auto, using(crate::proofs::Refusing::selections_nowhere))]
+fn read_selections(alloc: Global, params: &Value) -> Result<QuestionResult, AllocError>
+    ensures { IfOk result (IsPlaceRead (codes "textDocument/selectionRange") (view params.now)) }
+{
     match read_places(alloc, params)? {
         Some(places) => Ok(Ok(Question::SelectionRanges(places))),
         None => Ok(Err(INVALID_PARAMS)),
-    }
-}
-
-/// A question, if its parameters had what it needs.
-fn asked(found: Option<Question>) -> QuestionResult {
-    match found {
-        Some(question) => Ok(question),
-        None => Err(INVALID_PARAMS),
     }
 }
 
@@ -136,14 +160,16 @@ pub(crate) fn read_question(
     alloc: Global,
     method: &str,
     params: &Value,
-) -> Result<QuestionResult, AllocError> {
+) -> Result<QuestionResult, AllocError>
+    ensures { IfOk result (IsTopicRead method.now (view params.now)) }
+{
     match method {
-        "textDocument/formatting" => Ok(asked(read_formatting(params))),
-        "textDocument/rangeFormatting" => Ok(asked(read_range_formatting(params))),
+        "textDocument/formatting" => Ok(read_formatting(params)),
+        "textDocument/rangeFormatting" => Ok(read_range_formatting(params)),
         "textDocument/documentSymbol" => Ok(Ok(Question::Symbols)),
         "textDocument/semanticTokens/full" => Ok(Ok(Question::SemanticTokens)),
         "textDocument/foldingRange" => Ok(Ok(Question::FoldingRanges)),
-        "textDocument/codeAction" => Ok(asked(read_actions(params))),
+        "textDocument/codeAction" => Ok(read_actions(params)),
         _ => read_question_at(alloc, method, params),
     }
 }
@@ -153,16 +179,18 @@ fn read_question_at(
     alloc: Global,
     method: &str,
     params: &Value,
-) -> Result<QuestionResult, AllocError> {
+) -> Result<QuestionResult, AllocError>
+    ensures { IfOk result (IsPlaceRead method.now (view params.now)) }
+{
     match method {
         "textDocument/selectionRange" => read_selections(alloc, params),
-        "textDocument/completion" => Ok(asked(read_completions(params))),
-        "textDocument/definition" => Ok(asked(read_definition(params))),
-        "textDocument/references" => Ok(asked(read_references(params))),
-        "textDocument/documentHighlight" => Ok(asked(read_highlights(params))),
-        "textDocument/hover" => Ok(asked(read_hover(params))),
-        "textDocument/prepareRename" => Ok(asked(read_prepare_rename(params))),
-        "textDocument/rename" => Ok(asked(read_rename(alloc, params)?)),
+        "textDocument/completion" => Ok(read_completions(params)),
+        "textDocument/definition" => Ok(read_definition(params)),
+        "textDocument/references" => Ok(read_references(params)),
+        "textDocument/documentHighlight" => Ok(read_highlights(params)),
+        "textDocument/hover" => Ok(read_hover(params)),
+        "textDocument/prepareRename" => Ok(read_prepare_rename(params)),
+        "textDocument/rename" => read_rename(alloc, params),
         _ => Ok(Err(NO_METHOD)),
     }
 }

@@ -1,4 +1,6 @@
 //! Why a request is refused.
+ghost use Rattle.std.specs.Prelude.{◌≡◌};
+ghost use Rattle.wac_lsp_messages.specs.Replying.{number_of};
 
 /// The code of a refusal.
 #[derive(Clone, Copy, Debug, PartialEq, Eq)]
@@ -21,7 +23,9 @@ pub enum Code {
 
 impl Code {
     /// The number that stands for it.
-    pub fn number(self) -> i64 {
+    pub fn number(self) -> i64
+        ensures { result ≡ number_of self }
+    {
         match self {
             Code::ParseError => -32700,
             Code::InvalidRequest => -32600,

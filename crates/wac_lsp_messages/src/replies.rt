@@ -1,8 +1,8 @@
 //! The messages of the server.
-ghost use Rattle.std.specs.Prelude.{◌≡◌, Some, None, IfOk, IsSome, codes, option_map, string_bytes};
+ghost use Rattle.std.specs.Prelude.{◌≡◌, Some, None, IfOk, codes, option_map, string_bytes};
 ghost use Rattle.serde_json.specs.Find.{get};
 ghost use Rattle.serde_json.specs.View.{view};
-ghost use Rattle.wac_lsp_messages.specs.Replying.{id_data, reply_id, IsRefusal, IsReplyTo, IsResult};
+ghost use Rattle.wac_lsp_messages.specs.Replying.{HasCode, IsRefusal, IsReplyTo, IsResult, id_data, reply_id};
 
 use crate::id::Id;
 use crate::refusal::Refusal;
@@ -40,21 +40,23 @@ pub fn reply(alloc: Global, id: &Id, value: Value) -> Result<String, AllocError>
 }
 
 /// Why a request is refused, as a value.
-fn error_value(alloc: Global, refusal: Refusal) -> Result<Value, AllocError> {
+fn error_value(alloc: Global, refusal: Refusal) -> Result<Value, AllocError>
+    ensures { IfOk result (λ error. HasCode refusal.code (view error)) }
+{
     let code = refusal.code.number();
     let text = refusal.message;
-    json!(in alloc; {"code": code, "message": text})
+    let error = json!(in alloc; {"code": code, "message": text})?;
+    Ok(error)
 }
 
-/// The reply to a request that is refused, as a value.
-fn refused_value(alloc: Global, id: Option<&Id>, refusal: Refusal) -> Result<Value, AllocError>
+/// The reply to a request that is refused with this error, as a value.
+fn refused_value(alloc: Global, id: Option<&Id>, error: Value) -> Result<Value, AllocError>
     ensures id { IfOk result (λ message.
         get (codes "id") (view message) ≡ Some (reply_id (option_map (λ it. it.now) id.entry))) }
-    ensures has { IfOk result (λ message. IsSome (get (codes "error") (view message))) }
+    ensures has { IfOk result (λ message. get (codes "error") (view message) ≡ Some (view error)) }
     ensures no_result { IfOk result (λ message. get (codes "result") (view message) ≡ None) }
 {
     let given = id_value(alloc, id)?;
-    let error = error_value(alloc, refusal)?;
     let message = json!(in alloc; {"jsonrpc": "2.0", "id": given, "error": error})?;
     Ok(message)
 }
@@ -62,9 +64,10 @@ fn refused_value(alloc: Global, id: Option<&Id>, refusal: Refusal) -> Result<Val
 /// The reply to a request that is refused, or to what is no message.
 pub fn refused(alloc: Global, id: Option<&Id>, refusal: Refusal) -> Result<String, AllocError>
     ensures id { IfOk result (λ text. IsReplyTo (option_map (λ it. it.now) id.entry) (string_bytes text)) }
-    ensures error { IfOk result (λ text. IsRefusal (string_bytes text)) }
+    ensures error { IfOk result (λ text. IsRefusal refusal.code (string_bytes text)) }
 {
-    let message = refused_value(alloc, id, refusal)?;
+    let error = error_value(alloc, refusal)?;
+    let message = refused_value(alloc, id, error)?;
     message.to_string(alloc)
 }
 

@@ -8,4 +8,4 @@ returns-clause-id c =
 
 pub returns-clause-error : goal.returns-clause-error
 returns-clause-error c =
-    IfOk-weaker c.to_string.result _ _ (λ text back. record { message = view c.in_ok-message.message; has = c.in_ok-message.ensures.has; no_result = c.in_ok-message.ensures.no_result; reads_back = back }) c.to_string.ensures.reads_back
+    IfOk-weaker c.to_string.result _ _ (λ text back. record { message = view c.in_ok-message.message; error = view c.in_ok-error.error; has = c.in_ok-message.ensures.has; coded = c.in_ok-error.ensures; no_result = c.in_ok-message.ensures.no_result; reads_back = back }) c.to_string.ensures.reads_back
