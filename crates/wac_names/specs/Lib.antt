@@ -1,1 +1,5 @@
+pub mod LookUps
+pub mod LookedUp
 pub mod Places
+pub mod Steps
+pub mod Traced

@@ -1,6 +1,7 @@
 -- Which name is at an offset, and where it is used.
 use Rattle.std.specs.Prelude.{◌≡◌, ℕ, ◌-◌, ◌==◌, ◌&&◌, Bool, List, [], Option, Some, IsSomeAnd, All, filter, find, map, nat_le, option_and_then, option_map, position, slice_get}
 use Rattle.std.specs.Option.{option_map_or}
+use Rattle.std.specs.Str.{bytes_eq}
 use Rattle.wac_lexer.specs.Reading.{slice}
 use Rattle.wac_lexer.specs.Span.{Span}
 use Rattle.wac_ast_grammar.specs.Tree.{without_percent}
@@ -11,6 +12,10 @@ use Rattle.wac_names.specs.declared.names.Names.{Names}
 -- what a text has in a span, without a leading `%`
 abbrev pub name_in : List ℕ → Span → List ℕ
 name_in source span = without_percent (slice source span)
+
+-- a text has the same name in two spans
+abbrev pub same_name : List ℕ → Span → Span → Bool
+same_name source a b = bytes_eq (name_in source a) (name_in source b)
 
 -- a mention stands for one of these names, and is spelled like it
 abbrev pub IsTied : List ℕ → List Name → Mention → Type 0

@@ -1,10 +1,16 @@
 //! Names in declarations of types.
 //!
 //! A type is bound after its parts, so that they can't name it; a resource before its methods, which can.
+ghost use Rattle.std.specs.Prelude.{◌≡◌, [], ◌∷◌, OnOk, flat_map, map, option_map};
+ghost use Rattle.wac_ast_base.specs.Names.{ident_of};
+ghost use Rattle.wac_ast_types.specs.Declarations.{enum_decl_of, field_of, flags_decl_of, item_type_decl_of, method_of, record_decl_of, resource_decl_of, resource_method_of, type_alias_of, type_decl_of, variant_case_of, variant_decl_of};
+ghost use Rattle.wac_ast_types.specs.Types.{ty_of};
+ghost use Rattle.wac_names.specs.Steps.{Step, alias_steps, case_steps, field_steps, func_steps, item_type_steps, method_steps, payload_steps, record_steps, resource_steps, type_decl_steps, variant_steps};
+ghost use Rattle.wac_names.specs.Traced.{Takes};
 
 use crate::finder::Finder;
 use crate::names::Kind;
-use crate::place::{Denoted, Place};
+use crate::place::{Denoted, Here, Place};
 use crate::types::{aliased, function, parameters, value_type};
 use std::alloc::AllocError;
 use wac_ast_types::{
@@ -15,23 +21,28 @@ use wac_ast_types::{
 /// Notes a field of the record of a number.
 fn field<'a>(
     finder: &mut Finder<'a>,
-    scope: usize,
+    here: Here,
     owner: usize,
     field: &Field<'a>,
-) -> Result<(), AllocError> {
+) -> Result<(), AllocError>
+    ensures { OnOk result (Takes finder.old finder.new (field_steps here.level (field_of field.now))) }
+{
     finder.declare(&field.id, Kind::Field, Some(owner))?;
-    value_type(finder, scope, &field.ty)
+    value_type(finder, here, &field.ty)
 }
 
 /// Notes the fields of the record of a number.
 fn fields<'a>(
     finder: &mut Finder<'a>,
-    scope: usize,
+    here: Here,
     owner: usize,
     fields: &[Field<'a>],
-) -> Result<(), AllocError> {
+) -> Result<(), AllocError>
+    ensures { OnOk result (Takes finder.old finder.new
+        (flat_map (field_steps here.level) (map field_of fields.now))) }
+{
     for one in fields {
-        field(finder, scope, owner, one)?;
+        field(finder, here, owner, one)?;
     }
     Ok(())
 }
@@ -41,20 +52,20 @@ fn record<'a>(
     finder: &mut Finder<'a>,
     place: Place,
     decl: &RecordDecl<'a>,
-) -> Result<(), AllocError> {
+) -> Result<(), AllocError>
+    ensures { OnOk result (Takes finder.old finder.new (record_steps place.here.level (record_decl_of decl.now))) }
+{
     let binding = finder.declare(&decl.id, Kind::Record, place.owner)?;
-    fields(finder, place.scope, binding, &decl.fields)?;
-    finder.bind_type(place, decl.id.string, Denoted::alone(binding))
+    fields(finder, place.here, binding, &decl.fields)?;
+    finder.bind_type(place, &decl.id, Denoted::new(binding, None))
 }
 
 /// Notes the names of the type of a case, if it has one.
-fn payload<'a>(
-    finder: &mut Finder<'a>,
-    scope: usize,
-    ty: &Option<Type<'a>>,
-) -> Result<(), AllocError> {
+fn payload<'a>(finder: &mut Finder<'a>, here: Here, ty: &Option<Type<'a>>) -> Result<(), AllocError>
+    ensures { OnOk result (Takes finder.old finder.new (payload_steps here.level (option_map ty_of ty.now))) }
+{
     match ty {
-        Some(ty) => value_type(finder, scope, ty),
+        Some(ty) => value_type(finder, here, ty),
         None => Ok(()),
     }
 }
@@ -62,23 +73,28 @@ fn payload<'a>(
 /// Notes a case of the variant of a number.
 fn case<'a>(
     finder: &mut Finder<'a>,
-    scope: usize,
+    here: Here,
     owner: usize,
     case: &VariantCase<'a>,
-) -> Result<(), AllocError> {
+) -> Result<(), AllocError>
+    ensures { OnOk result (Takes finder.old finder.new (case_steps here.level (variant_case_of case.now))) }
+{
     finder.declare(&case.id, Kind::Case, Some(owner))?;
-    payload(finder, scope, &case.ty)
+    payload(finder, here, &case.ty)
 }
 
 /// Notes the cases of the variant of a number.
 fn cases<'a>(
     finder: &mut Finder<'a>,
-    scope: usize,
+    here: Here,
     owner: usize,
     cases: &[VariantCase<'a>],
-) -> Result<(), AllocError> {
+) -> Result<(), AllocError>
+    ensures { OnOk result (Takes finder.old finder.new
+        (flat_map (case_steps here.level) (map variant_case_of cases.now))) }
+{
     for one in cases {
-        case(finder, scope, owner, one)?;
+        case(finder, here, owner, one)?;
     }
     Ok(())
 }
@@ -88,10 +104,12 @@ fn variant<'a>(
     finder: &mut Finder<'a>,
     place: Place,
     decl: &VariantDecl<'a>,
-) -> Result<(), AllocError> {
+) -> Result<(), AllocError>
+    ensures { OnOk result (Takes finder.old finder.new (variant_steps place.here.level (variant_decl_of decl.now))) }
+{
     let binding = finder.declare(&decl.id, Kind::Variant, place.owner)?;
-    cases(finder, place.scope, binding, &decl.cases)?;
-    finder.bind_type(place, decl.id.string, Denoted::alone(binding))
+    cases(finder, place.here, binding, &decl.cases)?;
+    finder.bind_type(place, &decl.id, Denoted::new(binding, None))
 }
 
 /// Notes the flags of the type of a number.
@@ -99,7 +117,9 @@ fn each_flag<'a>(
     finder: &mut Finder<'a>,
     owner: usize,
     flags: &[Flag<'a>],
-) -> Result<(), AllocError> {
+) -> Result<(), AllocError>
+    ensures { OnOk result (finder.new ≡ finder.old) }
+{
     for flag in flags {
         finder.declare(&flag.id, Kind::Flag, Some(owner))?;
     }
@@ -107,14 +127,12 @@ fn each_flag<'a>(
 }
 
 /// Notes a type of flags.
-fn flags<'a>(
-    finder: &mut Finder<'a>,
-    place: Place,
-    decl: &FlagsDecl<'a>,
-) -> Result<(), AllocError> {
+fn flags<'a>(finder: &mut Finder<'a>, place: Place, decl: &FlagsDecl<'a>) -> Result<(), AllocError>
+    ensures { OnOk result (Takes finder.old finder.new (Step.binds place.here.level (ident_of decl.now.id) ∷ [])) }
+{
     let binding = finder.declare(&decl.id, Kind::Flags, place.owner)?;
     each_flag(finder, binding, &decl.flags)?;
-    finder.bind_type(place, decl.id.string, Denoted::alone(binding))
+    finder.bind_type(place, &decl.id, Denoted::new(binding, None))
 }
 
 /// Notes the cases of the enum of a number.
@@ -122,7 +140,9 @@ fn enum_cases<'a>(
     finder: &mut Finder<'a>,
     owner: usize,
     cases: &[EnumCase<'a>],
-) -> Result<(), AllocError> {
+) -> Result<(), AllocError>
+    ensures { OnOk result (finder.new ≡ finder.old) }
+{
     for case in cases {
         finder.declare(&case.id, Kind::Case, Some(owner))?;
     }
@@ -134,58 +154,65 @@ fn enumeration<'a>(
     finder: &mut Finder<'a>,
     place: Place,
     decl: &EnumDecl<'a>,
-) -> Result<(), AllocError> {
+) -> Result<(), AllocError>
+    ensures { OnOk result (Takes finder.old finder.new (Step.binds place.here.level (ident_of decl.now.id) ∷ [])) }
+{
     let binding = finder.declare(&decl.id, Kind::Enum, place.owner)?;
     enum_cases(finder, binding, &decl.cases)?;
-    finder.bind_type(place, decl.id.string, Denoted::alone(binding))
+    finder.bind_type(place, &decl.id, Denoted::new(binding, None))
 }
 
 /// Notes an alias.
-fn alias<'a>(
-    finder: &mut Finder<'a>,
-    place: Place,
-    decl: &TypeAlias<'a>,
-) -> Result<(), AllocError> {
+fn alias<'a>(finder: &mut Finder<'a>, place: Place, decl: &TypeAlias<'a>) -> Result<(), AllocError>
+    ensures { OnOk result (Takes finder.old finder.new (alias_steps place.here.level (type_alias_of decl.now))) }
+{
     let binding = finder.declare(&decl.id, Kind::Alias, place.owner)?;
-    aliased(finder, place.scope, binding, &decl.kind)?;
-    finder.bind_type(place, decl.id.string, Denoted::alone(binding))
+    aliased(finder, place.here, binding, &decl.kind)?;
+    finder.bind_type(place, &decl.id, Denoted::new(binding, None))
 }
 
 /// Notes a method of the resource of a number.
 fn method<'a>(
     finder: &mut Finder<'a>,
-    scope: usize,
+    here: Here,
     owner: usize,
     method: &Method<'a>,
-) -> Result<(), AllocError> {
+) -> Result<(), AllocError>
+    ensures { OnOk result (Takes finder.old finder.new (func_steps here.level (method_of method.now).ty)) }
+{
     let binding = finder.declare(&method.id, Kind::Method, Some(owner))?;
-    function(finder, scope, binding, &method.ty)
+    function(finder, here, binding, &method.ty)
 }
 
 /// Notes a constructor or a method of the resource of a number.
 fn constructor_or_method<'a>(
     finder: &mut Finder<'a>,
-    scope: usize,
+    here: Here,
     owner: usize,
     one: &ResourceMethod<'a>,
-) -> Result<(), AllocError> {
+) -> Result<(), AllocError>
+    ensures { OnOk result (Takes finder.old finder.new (method_steps here.level (resource_method_of one.now))) }
+{
     match one {
         ResourceMethod::Constructor(constructor) => {
-            parameters(finder, scope, owner, &constructor.params)
+            parameters(finder, here, owner, &constructor.params)
         }
-        ResourceMethod::Method(declared) => method(finder, scope, owner, declared),
+        ResourceMethod::Method(declared) => method(finder, here, owner, declared),
     }
 }
 
 /// Notes the constructors and methods of the resource of a number.
 fn methods<'a>(
     finder: &mut Finder<'a>,
-    scope: usize,
+    here: Here,
     owner: usize,
     methods: &[ResourceMethod<'a>],
-) -> Result<(), AllocError> {
+) -> Result<(), AllocError>
+    ensures { OnOk result (Takes finder.old finder.new
+        (flat_map (method_steps here.level) (map resource_method_of methods.now))) }
+{
     for one in methods {
-        constructor_or_method(finder, scope, owner, one)?;
+        constructor_or_method(finder, here, owner, one)?;
     }
     Ok(())
 }
@@ -195,17 +222,19 @@ fn resource<'a>(
     finder: &mut Finder<'a>,
     place: Place,
     decl: &ResourceDecl<'a>,
-) -> Result<(), AllocError> {
+) -> Result<(), AllocError>
+    ensures { OnOk result (Takes finder.old finder.new
+        (resource_steps place.here.level (resource_decl_of decl.now))) }
+{
     let binding = finder.declare(&decl.id, Kind::Resource, place.owner)?;
-    finder.bind_type(place, decl.id.string, Denoted::alone(binding))?;
-    methods(finder, place.scope, binding, &decl.methods)
+    finder.bind_type(place, &decl.id, Denoted::new(binding, None))?;
+    methods(finder, place.here, binding, &decl.methods)
 }
 
 /// Notes a type that the document declares.
-pub(crate) fn type_decl<'a>(
-    finder: &mut Finder<'a>,
-    decl: &TypeDecl<'a>,
-) -> Result<(), AllocError> {
+pub(crate) fn type_decl<'a>(finder: &mut Finder<'a>, decl: &TypeDecl<'a>) -> Result<(), AllocError>
+    ensures { OnOk result (Takes finder.old finder.new (type_decl_steps (type_decl_of decl.now))) }
+{
     let place = Place::of_statements();
     match decl {
         TypeDecl::Variant(decl) => variant(finder, place, decl),
@@ -221,7 +250,10 @@ pub(crate) fn item_type<'a>(
     finder: &mut Finder<'a>,
     place: Place,
     decl: &ItemTypeDecl<'a>,
-) -> Result<(), AllocError> {
+) -> Result<(), AllocError>
+    ensures { OnOk result (Takes finder.old finder.new
+        (item_type_steps place.here.level (item_type_decl_of decl.now))) }
+{
     match decl {
         ItemTypeDecl::Resource(decl) => resource(finder, place, decl),
         ItemTypeDecl::Variant(decl) => variant(finder, place, decl),

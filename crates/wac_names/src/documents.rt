@@ -1,6 +1,15 @@
 //! Names of documents.
-ghost use Rattle.std.specs.Prelude.{IfOk};
+ghost use Rattle.std.specs.Prelude.{◌++◌, [], ◌∷◌, IfOk, OnOk, flat_map, map, option_map};
+ghost use Rattle.wac_ast.specs.Statements.{statement_of, type_statement_of};
+ghost use Rattle.wac_ast_base.specs.Names.{package_path_of};
+ghost use Rattle.wac_ast_statements.specs.Statements.{directive_of, let_statement_of};
+ghost use Rattle.wac_ast_worlds.specs.Worlds.{import_statement_of, import_type_of};
+ghost use Rattle.wac_ast_grammar.specs.Tree.{Statement as Tree};
+ghost use Rattle.wac_names.specs.LookedUp.{AreLookedUp};
+ghost use Rattle.wac_names.specs.LookUps.{look_ups};
 ghost use Rattle.wac_names.specs.Places.{AreTied};
+ghost use Rattle.wac_names.specs.Steps.{import_type_steps, statement_steps, steps_of, target_steps, type_statement_steps};
+ghost use Rattle.wac_names.specs.Traced.{Takes};
 
 use crate::declarations::type_decl;
 use crate::expressions::expression;
@@ -8,8 +17,9 @@ use crate::finder::Finder;
 use crate::interfaces::{interface, interface_decl};
 use crate::names::{Kind, Names};
 use crate::paths::{at_root, path};
-use crate::place::{Denoted, ROOT};
-use crate::tied::tied_names;
+use crate::place::{Denoted, Here};
+use crate::standing::standing_names;
+use crate::steps::Level;
 use crate::types::function;
 use crate::worlds::world_decl;
 use std::alloc::{AllocError, Global};
@@ -24,15 +34,17 @@ fn import_type<'a>(
     finder: &mut Finder<'a>,
     owner: usize,
     ty: &ImportType<'a>,
-) -> Result<Option<usize>, AllocError> {
+) -> Result<Option<usize>, AllocError>
+    ensures { OnOk result (Takes finder.old finder.new (import_type_steps (import_type_of ty.now))) }
+{
     match ty {
         ImportType::Package(from) => path(finder, from),
         ImportType::Func(func) => {
-            function(finder, ROOT, owner, func)?;
+            function(finder, Here::root(), owner, func)?;
             Ok(None)
         }
         ImportType::Interface(inline) => {
-            let inner = interface(finder, owner, &inline.items)?;
+            let inner = interface(finder, Level::Body, owner, &inline.items)?;
             Ok(Some(inner))
         }
         ImportType::Ident(id) => at_root(finder, id),
@@ -40,27 +52,35 @@ fn import_type<'a>(
 }
 
 /// Notes the names of an import. The name after `as` is one of the world outside.
-fn import<'a>(finder: &mut Finder<'a>, import: &ImportStatement<'a>) -> Result<(), AllocError> {
+fn import<'a>(finder: &mut Finder<'a>, import: &ImportStatement<'a>) -> Result<(), AllocError>
+    ensures { OnOk result (Takes finder.old finder.new
+        (statement_steps (Tree.import_statement (import_statement_of import.now)))) }
+{
     let binding = finder.declare(&import.id, Kind::Import, None)?;
     let scope = import_type(finder, binding, &import.ty)?;
-    finder.bind_at_root(import.id.string, Denoted { binding, scope })
+    finder.bind_at_root(&import.id, Denoted::new(binding, scope))
 }
 
 /// Notes the names of a `let`. Its own is bound after the expression, which can't name it.
 fn let_statement<'a>(
     finder: &mut Finder<'a>,
     statement: &LetStatement<'a>,
-) -> Result<(), AllocError> {
+) -> Result<(), AllocError>
+    ensures { OnOk result (Takes finder.old finder.new
+        (statement_steps (Tree.let_statement (let_statement_of statement.now)))) }
+{
     let binding = finder.declare(&statement.id, Kind::Let, None)?;
     let scope = expression(finder, &statement.expr)?;
-    finder.bind_at_root(statement.id.string, Denoted { binding, scope })
+    finder.bind_at_root(&statement.id, Denoted::new(binding, scope))
 }
 
 /// Notes the names of a declaration.
 fn type_statement<'a>(
     finder: &mut Finder<'a>,
     statement: &TypeStatement<'a>,
-) -> Result<(), AllocError> {
+) -> Result<(), AllocError>
+    ensures { OnOk result (Takes finder.old finder.new (type_statement_steps (type_statement_of statement.now))) }
+{
     match statement {
         TypeStatement::Interface(decl) => interface_decl(finder, decl),
         TypeStatement::World(decl) => world_decl(decl, finder),
@@ -69,7 +89,9 @@ fn type_statement<'a>(
 }
 
 /// Notes the names of a statement. An export's name after `as` is one of the world outside.
-fn statement<'a>(finder: &mut Finder<'a>, statement: &Statement<'a>) -> Result<(), AllocError> {
+fn statement<'a>(finder: &mut Finder<'a>, statement: &Statement<'a>) -> Result<(), AllocError>
+    ensures { OnOk result (Takes finder.old finder.new (statement_steps (statement_of statement.now))) }
+{
     match statement {
         Statement::Import(part) => import(finder, part),
         Statement::Ty(part) => type_statement(finder, part),
@@ -82,7 +104,10 @@ fn statement<'a>(finder: &mut Finder<'a>, statement: &Statement<'a>) -> Result<(
 }
 
 /// Notes the names of statements.
-fn statements<'a>(finder: &mut Finder<'a>, statements: &[Statement<'a>]) -> Result<(), AllocError> {
+fn statements<'a>(finder: &mut Finder<'a>, statements: &[Statement<'a>]) -> Result<(), AllocError>
+    ensures { OnOk result (Takes finder.old finder.new
+        (flat_map statement_steps (map statement_of statements.now))) }
+{
     for next in statements {
         statement(finder, next)?;
     }
@@ -90,16 +115,17 @@ fn statements<'a>(finder: &mut Finder<'a>, statements: &[Statement<'a>]) -> Resu
 }
 
 /// Notes the names of lent statements.
-fn all_statements<'a>(finder: &mut Finder<'a>, all: Statements<'_, 'a>) -> Result<(), AllocError> {
+fn all_statements<'a>(finder: &mut Finder<'a>, all: Statements<'_, 'a>) -> Result<(), AllocError>
+    ensures { OnOk result (Takes finder.old finder.new (flat_map statement_steps (map statement_of all.entry))) }
+{
     let all = all.all;
     statements(finder, all)
 }
 
 /// Notes the names of the target, if there is one: what its first segment denotes after all statements.
-fn target<'a>(
-    finder: &mut Finder<'a>,
-    targets: &Option<PackagePath<'a>>,
-) -> Result<(), AllocError> {
+fn target<'a>(finder: &mut Finder<'a>, targets: &Option<PackagePath<'a>>) -> Result<(), AllocError>
+    ensures { OnOk result (Takes finder.old finder.new (target_steps (option_map package_path_of targets.now))) }
+{
     match targets {
         Some(target) => {
             path(finder, target)?;
@@ -114,8 +140,11 @@ fn all_names<'a>(
     finder: &mut Finder<'a>,
     directive: &PackageDirective<'a>,
     statements: Statements<'_, 'a>,
-) -> Result<(), AllocError> {
-    finder.open()?;
+) -> Result<(), AllocError>
+    ensures { OnOk result (Takes finder.old finder.new
+        (steps_of (directive_of directive.now) (map statement_of statements.entry))) }
+{
+    finder.open_root()?;
     all_statements(finder, statements)?;
     target(finder, &directive.targets)
 }
@@ -133,10 +162,15 @@ impl Names {
         statements: Statements<'_, 'a>,
     ) -> Result<Names, AllocError>
         // Each mention stands for one of the names, and is spelled like it.
-        ensures { IfOk result (AreTied source.now) }
+        ensures tied { IfOk result (AreTied source.now) }
+        // The identifiers that are looked up in scopes are mentions exactly where they find a name, and each stands for it.
+        ensures looked_up { IfOk result (AreLookedUp source.now (look_ups (directive_of directive.now).package_name.name
+            (steps_of (directive_of directive.now) (map statement_of statements.entry)))) }
     {
-        let mut finder = Finder::new(alloc, directive.package.name);
+        let own = directive.package.name;
+        let mut finder = Finder::new(alloc, own);
         all_names(&mut finder, directive, statements)?;
-        tied_names(alloc, source, finder.into_names())
+        let (found, steps) = finder.into_parts();
+        standing_names(alloc, source, own, found, &steps)
     }
 }

@@ -1,11 +1,16 @@
 //! Names in expressions.
+ghost use Rattle.std.specs.Prelude.{◌≡◌, OnOk, map};
+ghost use Rattle.wac_ast_grammar.specs.Tree.{arguments_from};
+ghost use Rattle.wac_ast_expressions.specs.Expressions.{argument_of, expr_of, new_expr_of, primary_expr_of};
+ghost use Rattle.wac_names.specs.Steps.{argument_steps, arguments_steps, expr_steps, primary_steps};
+ghost use Rattle.wac_names.specs.Traced.{Takes};
 
 use crate::finder::Finder;
 use crate::paths::at_root;
-use crate::place::{Part, behind};
+use crate::place::behind;
 use std::alloc::AllocError;
 use wac_ast_base::{Ident, String};
-use wac_ast_expressions::{Expr, InstantiationArgument, PostfixExpr, PrimaryExpr};
+use wac_ast_expressions::{Expr, InstantiationArgument, NewExpr, PostfixExpr, PrimaryExpr};
 use wac_lexer::SourceSpan;
 
 /// Notes the names of an expression, and returns the scope behind it.
@@ -13,7 +18,9 @@ use wac_lexer::SourceSpan;
 pub(crate) fn expression<'a>(
     finder: &mut Finder<'a>,
     expr: &Expr<'a>,
-) -> Result<Option<usize>, AllocError> {
+) -> Result<Option<usize>, AllocError>
+    ensures { OnOk result (Takes finder.old finder.new (expr_steps (expr_of expr.now))) }
+{
     let scope = primary(finder, &expr.primary)?;
     accesses(finder, scope, &expr.postfix)
 }
@@ -21,13 +28,12 @@ pub(crate) fn expression<'a>(
 /// Notes the names of the beginning of an expression, and returns the scope behind it. What a new instance exports is
 /// declared in another package.
 #[cycle(expression)]
-fn primary<'a>(
-    finder: &mut Finder<'a>,
-    expr: &PrimaryExpr<'a>,
-) -> Result<Option<usize>, AllocError> {
+fn primary<'a>(finder: &mut Finder<'a>, expr: &PrimaryExpr<'a>) -> Result<Option<usize>, AllocError>
+    ensures { OnOk result (Takes finder.old finder.new (primary_steps (primary_expr_of expr.now))) }
+{
     match expr {
         PrimaryExpr::New(new) => {
-            arguments(finder, &new.arguments)?;
+            instantiation(finder, new)?;
             Ok(None)
         }
         PrimaryExpr::Nested(nested) => expression(finder, &nested.inner),
@@ -35,12 +41,23 @@ fn primary<'a>(
     }
 }
 
+/// Notes the names of a `new`.
+#[cycle(expression)]
+fn instantiation<'a>(finder: &mut Finder<'a>, new: &NewExpr<'a>) -> Result<(), AllocError>
+    ensures { OnOk result (Takes finder.old finder.new (primary_steps (new_expr_of new.now))) }
+{
+    arguments(finder, &new.arguments)
+}
+
 /// Notes the names of arguments.
 #[cycle(expression)]
 fn arguments<'a>(
     finder: &mut Finder<'a>,
     arguments: &[InstantiationArgument<'a>],
-) -> Result<(), AllocError> {
+) -> Result<(), AllocError>
+    ensures { OnOk result (Takes finder.old finder.new
+        (arguments_steps (arguments_from (map argument_of arguments.now)))) }
+{
     for one in arguments {
         argument(finder, one)?;
     }
@@ -52,7 +69,9 @@ fn arguments<'a>(
 fn argument<'a>(
     finder: &mut Finder<'a>,
     argument: &InstantiationArgument<'a>,
-) -> Result<(), AllocError> {
+) -> Result<(), AllocError>
+    ensures { OnOk result (Takes finder.old finder.new (argument_steps (argument_of argument.now))) }
+{
     match argument {
         InstantiationArgument::Inferred(id) | InstantiationArgument::Spread(id) => {
             at_root(finder, id)?;
@@ -91,11 +110,13 @@ fn accesses<'a>(
     finder: &mut Finder<'a>,
     scope: Option<usize>,
     accesses: &[PostfixExpr<'a>],
-) -> Result<Option<usize>, AllocError> {
+) -> Result<Option<usize>, AllocError>
+    ensures { OnOk result (finder.new ≡ finder.old) }
+{
     let mut scope = scope;
     for access in accesses {
         let id = accessed(access);
-        let found = finder.refer(scope, Part::Exports, &id)?;
+        let found = finder.member(scope, &id)?;
         scope = behind(found);
     }
     Ok(scope)

@@ -1,277 +1,264 @@
-//! What was found so far.
+//! What was found so far, and what the document did for it.
+ghost use Rattle.std.specs.Prelude.{◌≡◌, ◌++◌, [], ◌∷◌, IfOk, OnOk};
+ghost use Rattle.wac_ast_base.specs.Names.{ident_of};
+ghost use Rattle.wac_names.specs.declared.steps.Level.TheVariants as levels;
+ghost use Rattle.wac_names.specs.Steps.{Step};
+ghost use Rattle.wac_names.specs.Traced.{Takes, step_of, traced};
 
-use crate::names::{Kind, Mention, Name, Names};
-use crate::place::{Denoted, Part, Place, ROOT};
-use indexmap::{IndexMap, IndexSet};
+use crate::includes::include_items;
+use crate::known::Known;
+use crate::names::{Kind, Names};
+use crate::place::{Denoted, Here, Part, Place, ROOT};
+use crate::steps::{Level, StepTaken};
 use std::alloc::{AllocError, Global};
 use std::marker::Model;
 use wac_ast_base::Ident;
+use wac_ast_uses::WorldIncludeItem;
 
-/// The number of a text.
-#[derive(Clone, Copy, PartialEq, Eq, Hash)]
-pub(crate) struct Word(usize);
-
-/// What the names of a scope denote.
-struct Scope {
-    names: IndexMap<Word, Denoted>,
-    imports: IndexMap<Word, Denoted>,
-    exports: IndexMap<Word, Denoted>,
-}
-
-impl Drop for Scope {
-    fn drop(self) {
-        let Scope {
-            names: _,
-            imports: _,
-            exports: _,
-        } = self;
+/// The same identifier.
+fn copied<'a>(id: &Ident<'a>) -> Ident<'a>
+    ensures { ident_of result ≡ ident_of id.now }
+{
+    Ident {
+        string: id.string,
+        span: id.span,
     }
 }
 
-impl Scope {
-    fn new(alloc: Global) -> Self {
-        Scope {
-            names: IndexMap::new(alloc),
-            imports: IndexMap::new(alloc),
-            exports: IndexMap::new(alloc),
-        }
-    }
-
-    fn part(&self, part: Part) -> &IndexMap<Word, Denoted> {
-        match part {
-            Part::Names => &self.names,
-            Part::Imports => &self.imports,
-            Part::Exports => &self.exports,
-        }
-    }
-
-    fn insert(&mut self, part: Part, word: Word, denoted: Denoted) -> Result<(), AllocError> {
-        match part {
-            Part::Names => {
-                self.names.insert(word, denoted)?;
-            }
-            Part::Imports => {
-                self.imports.insert(word, denoted)?;
-            }
-            Part::Exports => {
-                self.exports.insert(word, denoted)?;
-            }
-        }
-        Ok(())
-    }
+/// Adds an item at the end. The prover follows a value with a text through a generic call alone.
+fn push<T: Drop>(items: &mut Vec<T>, item: T) -> Result<(), AllocError>
+    ensures { OnOk result (items.new.items ≡ items.old.items ++ item ∷ []) }
+{
+    items.push(item)?;
+    Ok(())
 }
 
-/// What was found so far: names, mentions, and what names denote in each scope.
+/// What is known so far, and the steps that were taken. A contract sees the steps alone.
 pub(crate) struct Finder<'a> {
-    alloc: Global,
-    own: &'a str,
-    words: IndexSet<&'a str>,
-    scopes: Vec<Scope>,
-    bindings: Vec<Name>,
-    mentions: Vec<Mention>,
+    known: Known<'a>,
+    steps: Vec<StepTaken<'a>>,
 }
 
-// Contracts see how many scopes there are: with a model a function that passes a finder on need not follow its parts.
 impl<'a> Model for Finder<'a> {
-    ghost use Rattle.std.specs.Prelude.{ℕ, length};
+    ghost use Rattle.std.specs.Prelude.{List};
+    ghost use Rattle.wac_names.specs.Steps.{Step};
+    ghost use Rattle.wac_names.specs.Traced.{traced};
 
-    ghost Value = { ℕ };
+    ghost Value = { List Step };
 
-    ghost view = { λ w. length w.scopes.items };
+    ghost view = { λ w. traced w.steps.items };
 }
 
 impl<'a> Drop for Finder<'a> {
     fn drop(self) {
-        let Finder {
-            alloc: _,
-            own: _,
-            words: _,
-            scopes: _,
-            bindings: _,
-            mentions: _,
-        } = self;
+        let Finder { known: _, steps: _ } = self;
     }
 }
 
 impl<'a> Finder<'a> {
     /// Nothing was found yet in the document of the package of this name.
-    pub(crate) fn new(alloc: Global, own: &'a str) -> Self {
+    pub(crate) fn new(alloc: Global, own: &'a str) -> Self
+        ensures { result ≡ [] }
+    {
         Finder {
-            alloc,
-            own,
-            words: IndexSet::new(alloc),
-            scopes: Vec::new(alloc),
-            bindings: Vec::new(alloc),
-            mentions: Vec::new(alloc),
+            known: Known::new(alloc, own),
+            steps: Vec::new(alloc),
         }
     }
 
-    /// The names and the mentions that were found.
-    pub(crate) fn into_names(self) -> Names {
-        let Finder {
-            alloc: _,
-            own: _,
-            words: _,
-            scopes: _,
-            bindings,
-            mentions,
-        } = self;
-        Names { bindings, mentions }
+    /// The names that were found, and the steps that were taken.
+    pub(crate) fn into_parts(self) -> (Names, Vec<StepTaken<'a>>)
+        ensures { traced result.1.items ≡ self.entry }
+    {
+        let Finder { known, steps } = self;
+        (known.into_names(), steps)
     }
 
-    /// Whether this is the name of the document's own package.
-    pub(crate) fn is_own(&self, name: &str) -> bool {
-        name == self.own
+    /// Takes the step that begins a body.
+    fn begins(&mut self, level: Level) -> Result<(), AllocError>
+        ensures { OnOk result (Takes self.old self.new (Step.begins level ∷ [])) }
+    {
+        push(&mut self.steps, StepTaken::Begins(level))
     }
 
-    /// A new scope. The first is the root's.
-    pub(crate) fn open(&mut self) -> Result<usize, AllocError> {
-        let number = self.scopes.len();
-        self.scopes.reserve(1)?;
-        self.scopes.push_reserved(Scope::new(self.alloc));
-        Ok(number)
+    /// Takes the step that binds a name.
+    fn binds(&mut self, level: Level, id: &Ident<'a>) -> Result<(), AllocError>
+        ensures { OnOk result (Takes self.old self.new (Step.binds level (ident_of id.now) ∷ [])) }
+    {
+        push(&mut self.steps, StepTaken::Binds(level, copied(id)))
+    }
+
+    /// Takes the step that looks an identifier up.
+    fn looks_up(&mut self, level: Level, id: &Ident<'a>) -> Result<(), AllocError>
+        ensures { OnOk result (Takes self.old self.new (Step.looks_up level (ident_of id.now) ∷ [])) }
+    {
+        push(&mut self.steps, StepTaken::LooksUp(level, copied(id)))
+    }
+
+    /// Takes the step that looks an identifier up, else at root.
+    fn looks_outwards(&mut self, level: Level, id: &Ident<'a>) -> Result<(), AllocError>
+        ensures { OnOk result (Takes self.old self.new (Step.looks_outwards level (ident_of id.now) ∷ [])) }
+    {
+        push(&mut self.steps, StepTaken::LooksOutwards(level, copied(id)))
+    }
+
+    /// Takes the step that looks up the first segment of a path.
+    fn enters(&mut self, name: &'a str, id: &Ident<'a>) -> Result<(), AllocError>
+        ensures { OnOk result (Takes self.old self.new (Step.enters name.now (ident_of id.now) ∷ [])) }
+    {
+        push(&mut self.steps, StepTaken::Enters(name, copied(id)))
+    }
+
+    /// Opens the root scope.
+    pub(crate) fn open_root(&mut self) -> Result<(), AllocError>
+        ensures { OnOk result (self.new ≡ self.old) }
+    {
+        self.known.open()?;
+        Ok(())
     }
 
     /// The place of the items of an interface or a world, whose name has this number, in a new scope.
-    pub(crate) fn open_body(&mut self, owner: usize, outside: Part) -> Result<Place, AllocError> {
-        let scope = self.open()?;
+    pub(crate) fn open_body(
+        &mut self,
+        level: Level,
+        owner: usize,
+        outside: Part,
+    ) -> Result<Place, AllocError>
+        ensures begins { OnOk result (Takes self.old self.new (Step.begins level ∷ [])) }
+        ensures level { IfOk result (λ place. place.here.level ≡ level) }
+    {
+        self.begins(level)?;
+        let scope = self.known.open()?;
         Ok(Place {
-            scope,
+            here: Here { level, scope },
             outside,
             owner: Some(owner),
         })
     }
 
-    /// Notes that an identifier is bound.
+    /// Notes that an identifier is bound, as what scopes don't bind is too.
     pub(crate) fn declare(
         &mut self,
-        id: &Ident<'_>,
+        id: &Ident<'a>,
         kind: Kind,
         container: Option<usize>,
-    ) -> Result<usize, AllocError> {
-        let number = self.bindings.len();
-        self.bindings.push(Name {
-            span: id.span,
-            kind,
-            container,
-        })?;
-        Ok(number)
-    }
-
-    /// Notes that an identifier stands for what was found, if something was.
-    pub(crate) fn mention(
-        &mut self,
-        id: &Ident<'a>,
-        found: Option<Denoted>,
-    ) -> Result<(), AllocError> {
-        if let Some(denoted) = found {
-            self.mentions.push(Mention {
-                span: id.span,
-                binding: denoted.binding,
-            })?;
-        }
-        Ok(())
-    }
-
-    /// The number of a text, which is new where the text is.
-    fn intern(&mut self, text: &'a str) -> Result<Word, AllocError> {
-        let (number, _) = self.words.insert_full(text)?;
-        Ok(Word(number))
-    }
-
-    /// What a text of that number denotes in a scope.
-    pub(crate) fn find_word(&self, scope: usize, part: Part, word: Word) -> Option<Denoted> {
-        let found = self.scopes.get(scope)?;
-        found.part(part).get(&word).copied()
-    }
-
-    /// What a name denotes in a scope.
-    pub(crate) fn find(&self, scope: Option<usize>, part: Part, name: &str) -> Option<Denoted> {
-        let scope = scope?;
-        let number = self.words.get_index_of(name)?;
-        self.find_word(scope, part, Word(number))
-    }
-
-    /// How many names a part of a scope has.
-    pub(crate) fn count(&self, scope: usize, part: Part) -> usize {
-        match self.scopes.get(scope) {
-            Some(found) => found.part(part).len(),
-            None => 0,
-        }
-    }
-
-    /// The name at a place of a part of a scope, and what it denotes.
-    pub(crate) fn entry(&self, scope: usize, part: Part, at: usize) -> Option<(Word, Denoted)> {
-        let found = self.scopes.get(scope)?;
-        match found.part(part).get_index(at) {
-            Some((word, denoted)) => Some((*word, *denoted)),
-            None => None,
-        }
-    }
-
-    /// Binds a text of that number in a scope, unless it is bound there.
-    pub(crate) fn bind_word(
-        &mut self,
-        scope: usize,
-        part: Part,
-        word: Word,
-        denoted: Denoted,
-    ) -> Result<(), AllocError> {
-        if self.find_word(scope, part, word).is_some() {
-            return Ok(());
-        }
-        match self.scopes.get_mut(scope) {
-            Some(found) => found.insert(part, word, denoted),
-            None => Ok(()),
-        }
-    }
-
-    /// Binds a name in a scope, unless it is bound there: resolving rejects a second one.
-    pub(crate) fn bind(
-        &mut self,
-        scope: usize,
-        part: Part,
-        name: &'a str,
-        denoted: Denoted,
-    ) -> Result<(), AllocError> {
-        let word = self.intern(name)?;
-        self.bind_word(scope, part, word, denoted)
+    ) -> Result<usize, AllocError>
+        ensures { OnOk result (self.new ≡ self.old) }
+    {
+        self.known.declare(id, kind, container)
     }
 
     /// Binds a type where declarations are, for identifiers there and from outside.
     pub(crate) fn bind_type(
         &mut self,
         place: Place,
-        name: &'a str,
+        id: &Ident<'a>,
         denoted: Denoted,
-    ) -> Result<(), AllocError> {
-        self.bind(place.scope, Part::Names, name, denoted)?;
-        self.bind(place.scope, place.outside, name, denoted)
+    ) -> Result<(), AllocError>
+        ensures { OnOk result (Takes self.old self.new (Step.binds place.here.level (ident_of id.now) ∷ [])) }
+    {
+        self.binds(place.here.level, id)?;
+        self.known.bind_type(place, id, denoted)
+    }
+
+    /// Binds a type that a `use` brings in, after the item that is the mention of it.
+    pub(crate) fn bind_used(
+        &mut self,
+        place: Place,
+        id: &Ident<'a>,
+        denoted: Denoted,
+    ) -> Result<(), AllocError>
+        ensures { OnOk result (Takes self.old self.new (Step.binds place.here.level (ident_of id.now) ∷ [])) }
+    {
+        self.binds(place.here.level, id)?;
+        self.known.bind_used(place, id, denoted)
     }
 
     /// Binds a name at root.
     pub(crate) fn bind_at_root(
         &mut self,
-        name: &'a str,
+        id: &Ident<'a>,
         denoted: Denoted,
-    ) -> Result<(), AllocError> {
-        self.bind(ROOT, Part::Names, name, denoted)
+    ) -> Result<(), AllocError>
+        ensures { OnOk result (Takes self.old self.new (Step.binds levels.Root (ident_of id.now) ∷ [])) }
+    {
+        self.binds(Level::Root, id)?;
+        self.known.bind(ROOT, Part::Names, id, denoted)
     }
 
-    /// What an identifier denotes in a scope. It is noted as a mention of that.
-    pub(crate) fn refer(
+    /// Binds a name for what is outside alone: no identifier within denotes it.
+    pub(crate) fn bind_outside(
         &mut self,
-        scope: Option<usize>,
+        scope: usize,
         part: Part,
         id: &Ident<'a>,
-    ) -> Result<Option<Denoted>, AllocError> {
-        let found = self.find(scope, part, id.string);
-        self.mention(id, found)?;
-        Ok(found)
+        denoted: Denoted,
+    ) -> Result<(), AllocError>
+        ensures { OnOk result (self.new ≡ self.old) }
+    {
+        self.known.bind(scope, part, id, denoted)
     }
 
-    /// What an identifier denotes at root. It is noted as a mention of that.
-    pub(crate) fn refer_at_root(&mut self, id: &Ident<'a>) -> Result<Option<Denoted>, AllocError> {
-        self.refer(Some(ROOT), Part::Names, id)
+    /// What an identifier denotes in a scope.
+    pub(crate) fn look_up(
+        &mut self,
+        here: Here,
+        id: &Ident<'a>,
+    ) -> Result<Option<Denoted>, AllocError>
+        ensures { OnOk result (Takes self.old self.new (Step.looks_up here.level (ident_of id.now) ∷ [])) }
+    {
+        self.looks_up(here.level, id)?;
+        self.known.refer(here.scope, id)
+    }
+
+    /// What an identifier denotes in a scope, else at root.
+    pub(crate) fn look_outwards(
+        &mut self,
+        here: Here,
+        id: &Ident<'a>,
+    ) -> Result<Option<Denoted>, AllocError>
+        ensures { OnOk result (Takes self.old self.new (Step.looks_outwards here.level (ident_of id.now) ∷ [])) }
+    {
+        self.looks_outwards(here.level, id)?;
+        self.known.refer_outwards(here.scope, id)
+    }
+
+    /// What the first segment of a path into the package of a name denotes at root, if that is the document's own.
+    pub(crate) fn enter(
+        &mut self,
+        name: &'a str,
+        id: &Ident<'a>,
+    ) -> Result<Option<Denoted>, AllocError>
+        ensures { OnOk result (Takes self.old self.new (Step.enters name.now (ident_of id.now) ∷ [])) }
+    {
+        self.enters(name, id)?;
+        if self.known.is_own(name) {
+            self.known.refer(ROOT, id)
+        } else {
+            Ok(None)
+        }
+    }
+
+    /// The export that an identifier denotes of what has this scope behind it.
+    pub(crate) fn member(
+        &mut self,
+        scope: Option<usize>,
+        id: &Ident<'a>,
+    ) -> Result<Option<Denoted>, AllocError>
+        ensures { OnOk result (self.new ≡ self.old) }
+    {
+        self.known.member(scope, id)
+    }
+
+    /// Notes what an `include` at a place takes of the world with this scope, and renames.
+    pub(crate) fn include(
+        &mut self,
+        place: Place,
+        from: Option<usize>,
+        items: &[WorldIncludeItem<'a>],
+    ) -> Result<(), AllocError>
+        ensures { OnOk result (self.new ≡ self.old) }
+    {
+        include_items(&mut self.known, place, from, items)
     }
 }

@@ -1,9 +1,15 @@
 //! Names in interfaces.
+ghost use Rattle.std.specs.Prelude.{OnOk, flat_map, map};
+ghost use Rattle.wac_ast_worlds.specs.Worlds.{interface_decl_of, interface_export_of, interface_item_of};
+ghost use Rattle.wac_names.specs.Steps.{func_ref_steps, interface_item_steps, interface_steps, type_statement_steps};
+ghost use Rattle.wac_ast_grammar.specs.Tree.{TypeStatement};
+ghost use Rattle.wac_names.specs.Traced.{Takes};
 
 use crate::declarations::item_type;
 use crate::finder::Finder;
 use crate::names::Kind;
 use crate::place::{Denoted, Part, Place};
+use crate::steps::Level;
 use crate::types::function_reference;
 use crate::uses::use_statement;
 use std::alloc::AllocError;
@@ -14,15 +20,14 @@ fn interface_export<'a>(
     finder: &mut Finder<'a>,
     place: Place,
     export: &InterfaceExport<'a>,
-) -> Result<(), AllocError> {
+) -> Result<(), AllocError>
+    ensures { OnOk result (Takes finder.old finder.new
+        (func_ref_steps place.here.level (interface_export_of export.now).ty)) }
+{
     let binding = finder.declare(&export.id, Kind::Function, place.owner)?;
-    function_reference(finder, place.scope, binding, &export.ty)?;
-    finder.bind(
-        place.scope,
-        Part::Exports,
-        export.id.string,
-        Denoted::alone(binding),
-    )
+    function_reference(finder, place.here, binding, &export.ty)?;
+    let denoted = Denoted::new(binding, None);
+    finder.bind_outside(place.here.scope, Part::Exports, &export.id, denoted)
 }
 
 /// Notes the names of an item.
@@ -30,7 +35,10 @@ fn interface_item<'a>(
     finder: &mut Finder<'a>,
     place: Place,
     item: &InterfaceItem<'a>,
-) -> Result<(), AllocError> {
+) -> Result<(), AllocError>
+    ensures { OnOk result (Takes finder.old finder.new
+        (interface_item_steps place.here.level (interface_item_of item.now))) }
+{
     match item {
         InterfaceItem::Use(used) => use_statement(finder, place, used),
         InterfaceItem::Export(export) => interface_export(finder, place, export),
@@ -43,7 +51,10 @@ fn interface_items<'a>(
     finder: &mut Finder<'a>,
     place: Place,
     items: &[InterfaceItem<'a>],
-) -> Result<(), AllocError> {
+) -> Result<(), AllocError>
+    ensures { OnOk result (Takes finder.old finder.new
+        (flat_map (interface_item_steps place.here.level) (map interface_item_of items.now))) }
+{
     for item in items {
         interface_item(finder, place, item)?;
     }
@@ -53,20 +64,26 @@ fn interface_items<'a>(
 /// Notes the names of the items of an interface, in the declaration of the name of a number, and returns its scope.
 pub(crate) fn interface<'a>(
     finder: &mut Finder<'a>,
+    level: Level,
     owner: usize,
     items: &[InterfaceItem<'a>],
-) -> Result<usize, AllocError> {
-    let place = finder.open_body(owner, Part::Exports)?;
+) -> Result<usize, AllocError>
+    ensures { OnOk result (Takes finder.old finder.new (interface_steps level (map interface_item_of items.now))) }
+{
+    let place = finder.open_body(level, owner, Part::Exports)?;
     interface_items(finder, place, items)?;
-    Ok(place.scope)
+    Ok(place.here.scope)
 }
 
 /// Notes the names of a declared interface. It is bound after its items, so that they can't name it.
 pub(crate) fn interface_decl<'a>(
     finder: &mut Finder<'a>,
     decl: &InterfaceDecl<'a>,
-) -> Result<(), AllocError> {
+) -> Result<(), AllocError>
+    ensures { OnOk result (Takes finder.old finder.new
+        (type_statement_steps (TypeStatement.interface (interface_decl_of decl.now)))) }
+{
     let binding = finder.declare(&decl.id, Kind::Interface, None)?;
-    let scope = Some(interface(finder, binding, &decl.items)?);
-    finder.bind_at_root(decl.id.string, Denoted { binding, scope })
+    let scope = Some(interface(finder, Level::Body, binding, &decl.items)?);
+    finder.bind_at_root(&decl.id, Denoted::new(binding, scope))
 }

@@ -70,6 +70,10 @@ pub struct Mention {
     pub span: SourceSpan,
     /// The number of the name that it stands for.
     pub binding: usize,
+    /// Where the scope binds it in which it is looked up: where that name is bound, or at the item of a `use` that brings
+    /// it in. `None` for a member, which is looked up among exports: an access, a later segment of a path, an item of a
+    /// `use`, and what an `include` renames.
+    pub bound: Option<SourceSpan>,
 }
 
 /// The names of a document.

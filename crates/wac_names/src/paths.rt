@@ -1,23 +1,28 @@
 //! Names in paths, and in what stands for a path.
+ghost use Rattle.std.specs.Prelude.{◌≡◌, [], ◌∷◌, OnOk};
+ghost use Rattle.wac_ast_base.specs.Names.{ident_of, package_path_of};
+ghost use Rattle.wac_ast_uses.specs.Uses.{use_path_of, world_ref_of};
+ghost use Rattle.wac_names.specs.declared.steps.Level.TheVariants as levels;
+ghost use Rattle.wac_names.specs.Steps.{Step, path_steps, use_path_steps, world_ref_steps};
+ghost use Rattle.wac_names.specs.Traced.{Takes};
 
 use crate::finder::Finder;
-use crate::place::{Part, behind};
+use crate::place::{Denoted, Here, behind};
 use std::alloc::AllocError;
 use wac_ast_base::{Ident, PackagePath, SegmentSpans};
 use wac_ast_uses::{UsePath, WorldRef};
 
-/// Notes the segments of a path into the document's own package, and returns the scope behind the last one.
+/// Notes the segments of a path after the one that denotes this, and returns the scope behind the last one.
 fn segments<'a>(
     finder: &mut Finder<'a>,
-    segments: SegmentSpans<'a>,
-) -> Result<Option<usize>, AllocError> {
-    let mut rest = segments;
-    let Some((string, span)) = rest.next() else {
-        return Ok(None);
-    };
-    let mut found = finder.refer_at_root(&Ident { string, span })?;
+    first: Option<Denoted>,
+    rest: SegmentSpans<'a>,
+) -> Result<Option<usize>, AllocError>
+    ensures { OnOk result (finder.new ≡ finder.old) }
+{
+    let mut found = first;
     for (string, span) in rest {
-        found = finder.refer(behind(found), Part::Exports, &Ident { string, span })?;
+        found = finder.member(behind(found), &Ident { string, span })?;
     }
     Ok(behind(found))
 }
@@ -26,11 +31,16 @@ fn segments<'a>(
 pub(crate) fn path<'a>(
     finder: &mut Finder<'a>,
     path: &PackagePath<'a>,
-) -> Result<Option<usize>, AllocError> {
-    if finder.is_own(path.name) {
-        segments(finder, path.segment_spans())
-    } else {
-        Ok(None)
+) -> Result<Option<usize>, AllocError>
+    ensures { OnOk result (Takes finder.old finder.new (path_steps (package_path_of path.now))) }
+{
+    let mut rest = path.segment_spans();
+    match rest.next() {
+        Some((string, span)) => {
+            let first = finder.enter(path.name, &Ident { string, span })?;
+            segments(finder, first, rest)
+        }
+        None => Ok(None),
     }
 }
 
@@ -38,8 +48,10 @@ pub(crate) fn path<'a>(
 pub(crate) fn at_root<'a>(
     finder: &mut Finder<'a>,
     id: &Ident<'a>,
-) -> Result<Option<usize>, AllocError> {
-    let found = finder.refer_at_root(id)?;
+) -> Result<Option<usize>, AllocError>
+    ensures { OnOk result (Takes finder.old finder.new (Step.looks_up levels.Root (ident_of id.now) ∷ [])) }
+{
+    let found = finder.look_up(Here::root(), id)?;
     Ok(behind(found))
 }
 
@@ -47,7 +59,9 @@ pub(crate) fn at_root<'a>(
 pub(crate) fn use_path<'a>(
     finder: &mut Finder<'a>,
     from: &UsePath<'a>,
-) -> Result<Option<usize>, AllocError> {
+) -> Result<Option<usize>, AllocError>
+    ensures { OnOk result (Takes finder.old finder.new (use_path_steps (use_path_of from.now))) }
+{
     match from {
         UsePath::Package(from) => path(finder, from),
         UsePath::Ident(id) => at_root(finder, id),
@@ -58,7 +72,9 @@ pub(crate) fn use_path<'a>(
 pub(crate) fn world_ref<'a>(
     finder: &mut Finder<'a>,
     world: &WorldRef<'a>,
-) -> Result<Option<usize>, AllocError> {
+) -> Result<Option<usize>, AllocError>
+    ensures { OnOk result (Takes finder.old finder.new (world_ref_steps (world_ref_of world.now))) }
+{
     match world {
         WorldRef::Package(from) => path(finder, from),
         WorldRef::Ident(id) => at_root(finder, id),

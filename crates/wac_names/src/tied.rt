@@ -2,7 +2,7 @@
 ghost use Rattle.std.specs.Prelude.{◌≡◌, ◌↔◌, All, IfOk, IfSome, IsSome, IsTrue};
 ghost use Rattle.wac_lexer.specs.Reading.{Slices, slice};
 ghost use Rattle.wac_ast_grammar.specs.Tree.{without_percent};
-ghost use Rattle.wac_names.specs.Places.{AreTied, IsTied, name_in};
+ghost use Rattle.wac_names.specs.Places.{AreTied, IsTied, name_in, same_name};
 
 use crate::names::{Mention, Name, Names, numbered};
 use std::alloc::{AllocError, Global};
@@ -56,14 +56,32 @@ pub fn is_same(text: &str, other: &str) -> bool
     text == other
 }
 
-/// Whether two names that a text has are spelled alike.
-fn are_alike(source: &str, first: SourceSpan, second: SourceSpan) -> bool
-    ensures { IsTrue result → name_in source.now first ≡ name_in source.now second }
+/// The bytes that a text has in a span, as far as it goes.
+fn bytes_in(source: &str, span: SourceSpan) -> &[u8]
+    ensures { result.now ≡ slice source.now span }
 {
-    match (name_in(source, first), name_in(source, second)) {
-        (Some(text), Some(other)) => is_same(text, other),
-        _ => false,
+    let bytes = source.as_bytes();
+    let (_, rest) = bytes.split_at(span.offset().min(bytes.len()));
+    let (found, _) = rest.split_at(span.len().min(rest.len()));
+    found
+}
+
+/// The bytes without a leading `%`.
+fn bytes_without_percent(bytes: &[u8]) -> &[u8]
+    ensures { result.now ≡ without_percent bytes.now }
+{
+    match bytes.split_first() {
+        Some((first, rest)) if *first == b'%' => rest,
+        _ => bytes,
     }
+}
+
+/// Whether a text has the same name in two spans.
+pub(crate) fn is_same_name(source: &str, first: SourceSpan, second: SourceSpan) -> bool
+    ensures { result ≡ same_name source.now first second }
+{
+    bytes_without_percent(bytes_in(source, first))
+        == bytes_without_percent(bytes_in(source, second))
 }
 
 /// Whether a mention stands for one of these names, and is spelled like it.
@@ -71,7 +89,7 @@ fn is_tied(source: &str, names: &[Name], mention: &Mention) -> bool
     ensures { IsTrue result → IsTied source.now names.now mention.now }
 {
     match numbered(names, mention.binding) {
-        Some(name) => are_alike(source, name.span, mention.span),
+        Some(name) => is_same_name(source, name.span, mention.span),
         None => false,
     }
 }
@@ -91,6 +109,7 @@ fn tied(
             all.push(Mention {
                 span: mention.span,
                 binding: mention.binding,
+                bound: mention.bound,
             })?;
         }
     }

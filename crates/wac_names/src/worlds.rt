@@ -1,45 +1,56 @@
 //! Names in worlds.
+ghost use Rattle.std.specs.Prelude.{◌≡◌, ◌++◌, [], ◌∷◌, OnOk, flat_map, map};
+ghost use Rattle.wac_ast_base.specs.Names.{ident_of};
+ghost use Rattle.wac_ast_grammar.specs.Tree.{TypeStatement};
+ghost use Rattle.wac_ast_uses.specs.Uses.{world_include_of};
+ghost use Rattle.wac_ast_worlds.specs.Worlds.{extern_type_of, named_world_item_of, world_decl_of, world_item_of, world_item_path_of};
+ghost use Rattle.wac_names.specs.declared.steps.Level.TheVariants as levels;
+ghost use Rattle.wac_names.specs.Steps.{Step, extern_steps, extern_type_steps, type_statement_steps, world_item_steps, world_ref_steps, world_steps};
+ghost use Rattle.wac_names.specs.Traced.{Takes};
 
 use crate::declarations::item_type;
 use crate::finder::Finder;
-use crate::includes::include;
 use crate::interfaces::interface;
 use crate::names::Kind;
-use crate::paths::{at_root, path};
-use crate::place::{Denoted, Part, Place};
+use crate::paths::{at_root, path, world_ref};
+use crate::place::{Denoted, Here, Part, Place, behind};
+use crate::steps::Level;
 use crate::types::function;
 use crate::uses::use_statement;
 use std::alloc::AllocError;
 use wac_ast_base::Ident;
+use wac_ast_uses::WorldInclude;
 use wac_ast_worlds::{ExternType, NamedWorldItem, WorldDecl, WorldItem, WorldItemPath};
 
 /// Notes the type that an identifier denotes in a body, else at root, and returns the scope behind it.
 fn named_extern<'a>(
     finder: &mut Finder<'a>,
-    scope: usize,
+    here: Here,
     id: &Ident<'a>,
-) -> Result<Option<usize>, AllocError> {
-    match finder.refer(Some(scope), Part::Names, id)? {
-        Some(denoted) => Ok(denoted.scope),
-        None => at_root(finder, id),
-    }
+) -> Result<Option<usize>, AllocError>
+    ensures { OnOk result (Takes finder.old finder.new (Step.looks_outwards here.level (ident_of id.now) ∷ [])) }
+{
+    let found = finder.look_outwards(here, id)?;
+    Ok(behind(found))
 }
 
 /// Notes the names of the type of an item, in the declaration of the name of a number, and returns the scope behind it.
 fn extern_type<'a>(
     finder: &mut Finder<'a>,
-    scope: usize,
+    here: Here,
     owner: usize,
     ty: &ExternType<'a>,
-) -> Result<Option<usize>, AllocError> {
+) -> Result<Option<usize>, AllocError>
+    ensures { OnOk result (Takes finder.old finder.new (extern_type_steps here.level (extern_type_of ty.now))) }
+{
     match ty {
-        ExternType::Ident(id) => named_extern(finder, scope, id),
+        ExternType::Ident(id) => named_extern(finder, here, id),
         ExternType::Func(func) => {
-            function(finder, scope, owner, func)?;
+            function(finder, here, owner, func)?;
             Ok(None)
         }
         ExternType::Interface(inline) => {
-            let inner = interface(finder, owner, &inline.items)?;
+            let inner = interface(finder, Level::Inner, owner, &inline.items)?;
             Ok(Some(inner))
         }
     }
@@ -59,15 +70,14 @@ fn named_item<'a>(
     place: Place,
     side: Part,
     item: &NamedWorldItem<'a>,
-) -> Result<(), AllocError> {
+) -> Result<(), AllocError>
+    ensures { OnOk result (Takes finder.old finder.new
+        (extern_type_steps place.here.level (named_world_item_of item.now).ty)) }
+{
     let binding = finder.declare(&item.id, kind_on(side), place.owner)?;
-    let scope = extern_type(finder, place.scope, binding, &item.ty)?;
-    finder.bind(
-        place.scope,
-        side,
-        item.id.string,
-        Denoted { binding, scope },
-    )
+    let scope = extern_type(finder, place.here, binding, &item.ty)?;
+    let denoted = Denoted::new(binding, scope);
+    finder.bind_outside(place.here.scope, side, &item.id, denoted)
 }
 
 /// Notes the names of an import or export.
@@ -76,7 +86,10 @@ fn extern_item<'a>(
     place: Place,
     side: Part,
     item: &WorldItemPath<'a>,
-) -> Result<(), AllocError> {
+) -> Result<(), AllocError>
+    ensures { OnOk result (Takes finder.old finder.new
+        (extern_steps place.here.level (world_item_path_of item.now))) }
+{
     match item {
         WorldItemPath::Named(item) => named_item(finder, place, side, item),
         WorldItemPath::Package(from) => {
@@ -90,12 +103,27 @@ fn extern_item<'a>(
     }
 }
 
+/// Notes the names of an `include`.
+fn include<'a>(
+    finder: &mut Finder<'a>,
+    place: Place,
+    clause: &WorldInclude<'a>,
+) -> Result<(), AllocError>
+    ensures { OnOk result (Takes finder.old finder.new (world_ref_steps (world_include_of clause.now).world)) }
+{
+    let from = world_ref(finder, &clause.world)?;
+    finder.include(place, from, &clause.with)
+}
+
 /// Notes the names of an item.
 fn world_item<'a>(
     finder: &mut Finder<'a>,
     place: Place,
     item: &WorldItem<'a>,
-) -> Result<(), AllocError> {
+) -> Result<(), AllocError>
+    ensures { OnOk result (Takes finder.old finder.new
+        (world_item_steps place.here.level (world_item_of item.now))) }
+{
     match item {
         WorldItem::Use(used) => use_statement(finder, place, used),
         WorldItem::Import(import) => extern_item(finder, place, Part::Imports, &import.path),
@@ -110,7 +138,10 @@ fn world_items<'a>(
     finder: &mut Finder<'a>,
     place: Place,
     items: &[WorldItem<'a>],
-) -> Result<(), AllocError> {
+) -> Result<(), AllocError>
+    ensures { OnOk result (Takes finder.old finder.new
+        (flat_map (world_item_steps place.here.level) (map world_item_of items.now))) }
+{
     for item in items {
         world_item(finder, place, item)?;
     }
@@ -122,16 +153,21 @@ fn world<'a>(
     finder: &mut Finder<'a>,
     id: &Ident<'a>,
     items: &[WorldItem<'a>],
-) -> Result<(), AllocError> {
+) -> Result<(), AllocError>
+    ensures { OnOk result (Takes finder.old finder.new
+        (world_steps (map world_item_of items.now) ++ Step.binds levels.Root (ident_of id.now) ∷ [])) }
+{
     let binding = finder.declare(id, Kind::World, None)?;
-    let place = finder.open_body(binding, Part::Imports)?;
+    let place = finder.open_body(Level::Body, binding, Part::Imports)?;
     world_items(finder, place, items)?;
-    let scope = Some(place.scope);
-    finder.bind_at_root(id.string, Denoted { binding, scope })
+    let scope = Some(place.here.scope);
+    finder.bind_at_root(id, Denoted::new(binding, scope))
 }
 
 /// The items of a declared world. The prover follows them through a call at far less cost than as a part of the declaration.
-fn items_of<'x, 'a>(decl: &'x WorldDecl<'a>) -> &'x [WorldItem<'a>] {
+fn items_of<'x, 'a>(decl: &'x WorldDecl<'a>) -> &'x [WorldItem<'a>]
+    ensures { result.now ≡ decl.now.items.items }
+{
     &decl.items
 }
 
@@ -139,6 +175,9 @@ fn items_of<'x, 'a>(decl: &'x WorldDecl<'a>) -> &'x [WorldItem<'a>] {
 pub(crate) fn world_decl<'a>(
     decl: &WorldDecl<'a>,
     finder: &mut Finder<'a>,
-) -> Result<(), AllocError> {
+) -> Result<(), AllocError>
+    ensures { OnOk result (Takes finder.old finder.new
+        (type_statement_steps (TypeStatement.world (world_decl_of decl.now)))) }
+{
     world(finder, &decl.id, items_of(decl))
 }

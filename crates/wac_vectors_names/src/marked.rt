@@ -72,6 +72,16 @@ pub(crate) fn is_used_at(marks: &[Mark], label: char, offset: usize) -> bool {
     false
 }
 
+/// The label under which a name is used at an offset.
+pub(crate) fn used_label(marks: &[Mark], offset: usize) -> Option<char> {
+    for mark in marks {
+        if !mark.is_binding && mark.offset == offset {
+            return Some(mark.label);
+        }
+    }
+    None
+}
+
 /// How often names are bound.
 pub(crate) fn binding_count(marks: &[Mark]) -> usize {
     marks.iter().filter(|mark| mark.is_binding).count()

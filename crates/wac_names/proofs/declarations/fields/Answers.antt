@@ -1,0 +1,13 @@
+use Rattle.wac_ast_types.specs.Declarations.{field_of}
+use Rattle.wac_names.specs.Steps.{field_steps}
+use Rattle.wac_names.proofs.Taking.{none, next, all}
+use Rattle.wac_names.proofs.declarations.fields.Goals as goal
+
+pub loop-one-init : goal.loop-one-init
+loop-one-init c = none c.args.finder.now
+
+pub loop-one-preserved : goal.loop-one-preserved
+loop-one-preserved c = next field_of (field_steps c.args.here.level) c.args.fields.now c.loop-one.one-index c.one-item.result c.args.finder.now c.loop-one.finder c.field.new.finder c.loop-one-test.true c.one-item.is c.loop-one.invariant c.in_ok-field.ensures
+
+pub returns : goal.returns
+returns c = all field_of (field_steps c.args.here.level) c.args.fields.now c.loop-one.one-index c.args.finder.now c.loop-one.finder c.loop-one-test.false c.loop-one.invariant

@@ -1,0 +1,8 @@
+use Rattle.std.proofs.Common.{take, map, flat_map}
+use Rattle.wac_ast_worlds.specs.Worlds.{interface_item_of}
+use Rattle.wac_names.specs.Steps.{interface_item_steps}
+use Rattle.wac_names.specs.Traced.{Takes}
+use Rattle.wac_names.proofs.interfaces.interface_items.Given as goal
+
+abbrev pub invariant-loop-item : goal.invariant-loop-item
+invariant-loop-item l = Takes l.fn.finder l.finder (flat_map (interface_item_steps l.place.here.level) (map interface_item_of (take l.item-index l.items)))
