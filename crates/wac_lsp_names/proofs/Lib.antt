@@ -1,3 +1,4 @@
+pub mod Finding
 mod Following
 mod Giving
 pub mod Spans

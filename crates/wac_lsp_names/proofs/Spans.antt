@@ -1,5 +1,5 @@
 -- The places of a name.
-use Rattle.std.proofs.Common.{◌≡◌, refl, sym, subst, inl, inr, cond, ℕ, ◌+◌, ◌<◌, ◌≤◌, List, [], ◌∷◌, take, get_or, length, Bool, true, false, Option, Some}
+use Rattle.std.proofs.Common.{◌≡◌, refl, sym, subst, cond, ℕ, ◌+◌, ◌<◌, ◌≤◌, List, [], ◌∷◌, take, get_or, length, Bool, true, false, Option, Some, None}
 use Rattle.std.specs.List.{All, find}
 use Rattle.std.specs.Option.{option_map_or}
 use Rattle.std.proofs.lemmas.List.Elements.{All-head, All-more, All-tail, All-weaker}
@@ -8,7 +8,7 @@ use Rattle.wac_lexer.specs.Reading.{Slices}
 use Rattle.wac_lexer.specs.Span.{Span}
 use Rattle.wac_names.specs.Places.{touches}
 use Rattle.wac_lsp_names.specs.declared.occurrences.Occurrences.{Occurrences}
-use Rattle.wac_lsp_names.specs.Occurrences.{AreOccurrences, AreUsesAt, IsAlike, IsBoundAt, IsNameAt, at_of}
+use Rattle.wac_lsp_names.specs.Occurrences.{AreOccurrences, AreUsesAt, IsAlike, IsBoundAt, IsFoundAt, IsNameAt, at_of}
 
 -- all uses lie in the source
 pub uses_lie_in : (source : List ℕ) (offset : ℕ) (o : Occurrences) → AreOccurrences source offset o → All (Slices source) o.used.items
@@ -29,17 +29,21 @@ at_lies_in source offset bound (s ∷ used) is_in are_in =
 pub name_is_at : (source : List ℕ) (offset : ℕ) (o : Occurrences) → AreOccurrences source offset o → IsNameAt source offset o.at
 name_is_at source offset o are = (subst (Slices source) (sym are.at) (at_lies_in source offset o.bound o.used.items are.bound.0 (uses_lie_in source offset o are)), are.touches)
 
--- where the name at an offset is bound
-pub bound_at : (source : List ℕ) (offset : ℕ) (o : Occurrences) → AreOccurrences source offset o → IsBoundAt source offset o.bound
-bound_at source offset o are = record { name = o; is_there = are; bound_here = refl }
+-- where the name that is found is bound
+pub bound_at : (source : List ℕ) (offset : ℕ) (o : Occurrences) → IsFoundAt source offset (Some o) → IsBoundAt source offset (Some o.bound)
+bound_at source offset o found = (Some o, found, refl)
 
--- where the name at an offset is used
-pub used_at : (source : List ℕ) (offset : ℕ) (o : Occurrences) → AreOccurrences source offset o → AreUsesAt source offset o.used.items
-used_at source offset o are = inr (o, are, refl)
+-- no name is found that is bound
+pub unbound : (source : List ℕ) (offset : ℕ) → IsFoundAt source offset None → IsBoundAt source offset None
+unbound source offset found = (None, found, refl)
 
--- no name is at an offset
-pub unused : (source : List ℕ) (offset : ℕ) (used : List Span) → used ≡ [] → AreUsesAt source offset used
-unused source offset used none = inl none
+-- where the name that is found is used
+pub used_at : (source : List ℕ) (offset : ℕ) (o : Occurrences) → IsFoundAt source offset (Some o) → AreUsesAt source offset o.used.items
+used_at source offset o found = (Some o, found, refl)
+
+-- no name is found that is used
+pub unused : (source : List ℕ) (offset : ℕ) (used : List Span) → IsFoundAt source offset None → used ≡ [] → AreUsesAt source offset used
+unused source offset used found none = (None, found, none)
 
 -- one more span has the name
 pub one_more_alike : (source : List ℕ) (bound : Span) (spans : List Span) (index : ℕ) (s : Span) → All (IsAlike source bound) (take index spans) → index < length spans → s ≡ get_or spans index s

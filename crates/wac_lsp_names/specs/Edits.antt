@@ -1,12 +1,12 @@
 -- The edits that give a name another one.
-use Rattle.std.specs.Prelude.{◌≡◌, ◌≤◌, ◌⊎◌, ℕ, Bool, true, false, List, [], ◌∷◌, ◌++◌, codes, filter, map, string_bytes, IsPermutation}
+use Rattle.std.specs.Prelude.{◌≡◌, ◌≤◌, ◌⊎◌, ℕ, Bool, true, false, List, [], ◌∷◌, ◌++◌, Some, codes, filter, map, string_bytes, IsPermutation}
 use Rattle.wac_lexer.specs.Reading.{Slices}
 use Rattle.wac_lexer.specs.Span.{end_of}
 use Rattle.wac_ast_grammar.specs.Tree.{without_percent}
 use Rattle.wac_names.specs.Places.{name_in}
 use Rattle.wac_lsp_names.specs.declared.edits.Edit.{Edit}
 use Rattle.wac_lsp_names.specs.declared.occurrences.Occurrences.{Occurrences}
-use Rattle.wac_lsp_names.specs.Occurrences.{AreOccurrences}
+use Rattle.wac_lsp_names.specs.Occurrences.{AreOccurrences, IsFoundAt}
 
 -- a text is a name, with or without `%`
 abbrev pub IsWritten : List ℕ → List ℕ → Type 0
@@ -74,6 +74,7 @@ pub record Renames (source new : List ℕ) (o : Occurrences) (edits : List Edit)
 abbrev pub IsGiven : List ℕ → List ℕ → Occurrences → List Edit → Type 0
 IsGiven source new o edits = ((name_in source o.bound ≡ new) × (edits ≡ [])) ⊎ Renames source new o edits
 
--- the name at an offset gets a new one
+-- the name that is found at an offset gets a new one
 abbrev pub IsGivenAt : List ℕ → ℕ → List ℕ → List Edit → Type 0
-IsGivenAt source offset new edits = (o : Occurrences) × AreOccurrences source offset o × IsGiven source new o edits
+IsGivenAt source offset new edits =
+    (o : Occurrences) × AreOccurrences source offset o × IsFoundAt source offset (Some o) × IsGiven source new o edits

@@ -1,2 +1,4 @@
+pub mod Read
 pub mod Occurrences
+pub mod Said
 pub mod Edits

@@ -1,9 +1,10 @@
 -- The places of a name.
-use Rattle.std.specs.Prelude.{◌≡◌, ◌≢◌, ◌⊎◌, ℕ, ◌-◌, List, [], IsTrue, All, find}
+use Rattle.std.specs.Prelude.{◌≡◌, ◌≢◌, ℕ, ◌+◌, ◌-◌, ◌^◌, min, List, [], IsTrue, All, find, map, Option, Some, None, MatchOption, option_map}
 use Rattle.std.specs.Option.{option_map_or}
 use Rattle.wac_lexer.specs.Reading.{Slices}
 use Rattle.wac_lexer.specs.Span.{Span, span}
-use Rattle.wac_names.specs.Places.{name_in, touches}
+use Rattle.wac_names.specs.Places.{definition_at, name_in, references_at, touches}
+use Rattle.wac_lsp_names.specs.Read.{IsRead, Read}
 use Rattle.wac_lsp_names.specs.declared.occurrences.Occurrences.{Occurrences}
 
 -- a span, so many bytes before
@@ -33,13 +34,45 @@ pub record AreOccurrences (source : List ℕ) (offset : ℕ) (o : Occurrences) :
   pub at : o.at ≡ at_of offset o.bound o.used.items
   pub touches : IsTrue (touches offset o.at)
 
--- the name at an offset is bound here
-pub record IsBoundAt (source : List ℕ) (offset : ℕ) (bound : Span) : Type 0 where
-  pub name : Occurrences
-  pub is_there : AreOccurrences source offset name
-  pub bound_here : name.bound ≡ bound
+-- Places of a name are right: the first of the uses that an offset touches does it, or else the binding, and the source
+-- has the name in each.
+abbrev pub ArePlaces : List ℕ → ℕ → Span → List Span → Type 0
+ArePlaces source offset bound used =
+    IsTrue (touches offset (at_of offset bound used)) × IsNamed source bound × All (IsAlike source bound) used
 
--- the name at an offset is used in these places: in none, if a name that is bound isn't there
+-- what is found where a name is bound and used in these places: it is, unless they aren't right
+abbrev pub IsKept : List ℕ → ℕ → Span → List Span → Option Occurrences → Type 0
+IsKept source offset bound used None = ¬ (ArePlaces source offset bound used)
+IsKept source offset bound used (Some o) = (o.bound ≡ bound) × (o.used.items ≡ used)
+
+-- where an offset of a source is in a text that begins with so many bytes that the source doesn't have
+abbrev pub inner : ℕ → ℕ → ℕ
+inner skip offset = min (offset + skip) (2 ^ 64 - 1)
+
+-- What is found at an offset by the names that were read: the one that is bound or used there, with all its uses, each
+-- moved back. There is none where they have none there.
+abbrev pub IsFoundBy : List ℕ → ℕ → Read → Option Occurrences → Type 0
+IsFoundBy source offset r found =
+    MatchOption (definition_at r.names (inner r.skip offset)) (found ≡ None)
+    (λ name. IsKept source offset (back r.skip name.span)
+    (map (back r.skip) (references_at r.names (inner r.skip offset))) found)
+
+-- what is found at an offset of a source of which this was read: no name where nothing was
+abbrev pub IsFoundIn : List ℕ → ℕ → Option Read → Option Occurrences → Type 0
+IsFoundIn source offset None found = found ≡ None
+IsFoundIn source offset (Some r) found = IsFoundBy source offset r found
+
+-- what is found at an offset of a source
+abbrev pub IsFoundAt : List ℕ → ℕ → Option Occurrences → Type 0
+IsFoundAt source offset found = (r : Option Read) × IsRead source r × IsFoundIn source offset r found
+
+-- where the name is bound that is found at an offset, if one is
+abbrev pub IsBoundAt : List ℕ → ℕ → Option Span → Type 0
+IsBoundAt source offset bound =
+    (found : Option Occurrences) × IsFoundAt source offset found × (bound ≡ option_map (λ o. o.bound) found)
+
+-- where the name is used that is found at an offset: nowhere if none is
 abbrev pub AreUsesAt : List ℕ → ℕ → List Span → Type 0
 AreUsesAt source offset used =
-    (used ≡ []) ⊎ ((name : Occurrences) × AreOccurrences source offset name × (name.used.items ≡ used))
+    (found : Option Occurrences) × IsFoundAt source offset found
+    × (used ≡ option_map_or (λ o. o.used.items) found [])

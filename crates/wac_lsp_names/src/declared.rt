@@ -1,5 +1,6 @@
 //! What is said of what another text declares.
-ghost use Rattle.std.specs.Prelude.{◌≡◌, IfOk, IfSome};
+ghost use Rattle.std.specs.Prelude.{◌≡◌, IfNone, IfOk, IfSome, None};
+ghost use Rattle.wac_lsp_names.specs.Occurrences.{IsFoundAt};
 
 use crate::hover::{Hover, docs_before, hover_at};
 use std::alloc::{AllocError, Global};
@@ -47,13 +48,17 @@ fn moved(hover: Hover, at: SourceSpan) -> Hover
 /// declared_hover(alloc, "package c:d; interface i { f: func(); }", SourceSpan::new(27, 1), at)?;    // `f: func();`
 /// declared_hover(alloc, "package c:d; interface i { f: func(); }", SourceSpan::new(8, 3), at)?;     // `package c:d;`
 /// ```
+#[tactic(auto, using(crate::proofs::Finding::unfound))]
 pub fn declared_hover(
     alloc: Global,
     text: &str,
     declared: SourceSpan,
     at: SourceSpan,
 ) -> Result<Option<Hover>, AllocError>
-    ensures { IfOk result (λ hover. IfSome hover (λ h. h.at ≡ at)) }
+    // It is said of the place that was given.
+    ensures place { IfOk result (λ hover. IfSome hover (λ h. h.at ≡ at)) }
+    // Nothing is said only where `occurrences_at` finds no name at the beginning of the span.
+    ensures none { IfOk result (λ hover. IfNone hover (IsFoundAt text.now declared.offset None)) }
 {
     let name = text_at(text, declared);
     if name.contains(':') {

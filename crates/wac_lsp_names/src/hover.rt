@@ -1,12 +1,15 @@
 //! What is said of a name.
-ghost use Rattle.std.specs.Prelude.{◌≡◌, IfOk, IfSome};
+ghost use Rattle.std.specs.Prelude.{◌≡◌, IfOk, IfSome, Some};
 ghost use Rattle.wac_lsp_names.specs.Occurrences.{IsNameAt};
+ghost use Rattle.wac_lsp_names.specs.Read.{IsRead, read_of};
+ghost use Rattle.wac_lsp_names.specs.Said.{IsSaidAt};
 
 use crate::declarations::{Declaration, declaration_of};
-use crate::occurrences::{Occurrences, occurrences_in};
+use crate::occurrences::{Occurrences, inner, occurrences_in};
 use crate::reading::{Reading, read};
 use std::alloc::{AllocError, Global};
 use wac_lexer::{Lexer, SourceSpan};
+use wac_names::name_in;
 
 /// What is said of a name.
 #[derive(Drop)]
@@ -105,55 +108,88 @@ pub(crate) fn docs_before(alloc: Global, text: &str, token: usize) -> Result<Str
     Ok(found)
 }
 
-/// What is said of the name of a number, which is at a place.
+/// What is said of a name at a place, which a part of the text declares.
 fn said(
     alloc: Global,
     reading: &Reading,
-    number: usize,
+    declared: Declaration,
     at: SourceSpan,
-) -> Result<Option<Hover>, AllocError>
-    ensures { IfOk result (λ hover. IfSome hover (λ h. h.at ≡ at)) }
+) -> Result<Hover, AllocError>
+    ensures { IfOk result (λ hover. hover.at ≡ at) }
 {
-    let Some(found) = declaration_of(reading, number) else {
-        return Ok(None);
-    };
-    let Declaration { first, span } = found;
+    let Declaration { first, span } = declared;
     let declaration = lines_of(alloc, reading, span)?;
     let docs = docs_before(alloc, reading.text.as_str(), first)?;
-    Ok(Some(Hover {
+    Ok(Hover {
         at,
         declaration,
         docs,
-    }))
+    })
 }
 
-/// What is said of a name at an offset of what was read.
+/// What is said of a name at a place, where no part of the text is known to declare it: the name itself.
+fn named(alloc: Global, source: &str, at: SourceSpan) -> Result<Hover, AllocError>
+    ensures { IfOk result (λ hover. hover.at ≡ at) }
+{
+    let declaration = String::from_str(alloc, name_in(source, at).unwrap_or(""))?;
+    Ok(Hover {
+        at,
+        declaration,
+        docs: String::new(alloc),
+    })
+}
+
+/// The part of what was read that declares the name at an offset of the source.
+fn declared_at(reading: &Reading, offset: usize) -> Option<Declaration> {
+    let number = reading.names.binding_at(inner(reading, offset))?;
+    declaration_of(reading, number)
+}
+
+/// What is said of a name that is found at an offset.
+fn hover_of(
+    alloc: Global,
+    reading: &Reading,
+    source: &str,
+    found: &Occurrences,
+    offset: usize,
+) -> Result<Hover, AllocError>
+    ensures { IfOk result (λ hover. hover.at ≡ found.now.at) }
+{
+    match declared_at(reading, offset) {
+        Some(declared) => said(alloc, reading, declared, found.at),
+        None => named(alloc, source, found.at),
+    }
+}
+
+/// What is said of a name at an offset of a source, by what was read of it.
+#[tactic(auto, using(crate::proofs::Finding::nothing_said))]
 fn hover_in(
     alloc: Global,
     reading: &Reading,
-    found: &Occurrences,
-    inner: usize,
+    source: &str,
+    offset: usize,
 ) -> Result<Option<Hover>, AllocError>
-    ensures { IfOk result (λ hover. IfSome hover (λ h. h.at ≡ found.now.at)) }
+    requires { IsRead source.now (Some (read_of reading.now)) }
+    ensures name { IfOk result (λ hover. IfSome hover (λ h. IsNameAt source.now offset h.at)) }
+    ensures said { IfOk result (λ hover. IsSaidAt source.now offset hover) }
 {
-    match reading.names.binding_at(inner) {
-        Some(number) => said(alloc, reading, number, found.at),
+    match occurrences_in(alloc, reading, source, offset)? {
+        Some(found) => Ok(Some(hover_of(alloc, reading, source, &found, offset)?)),
         None => Ok(None),
     }
 }
 
 /// What is said of the name at an offset: the lines that declare it, and its documentation. At most 24 lines are shown. The
 /// error is that memory ran out.
-#[tactic(auto, using(crate::proofs::Spans::name_is_at))]
+#[tactic(auto, using(crate::proofs::Finding::nothing_read))]
 pub fn hover_at(alloc: Global, source: &str, offset: usize) -> Result<Option<Hover>, AllocError>
-    ensures { IfOk result (λ hover. IfSome hover (λ h. IsNameAt source.now offset h.at)) }
+    // It is said of a name in the source, which is at the offset.
+    ensures name { IfOk result (λ hover. IfSome hover (λ h. IsNameAt source.now offset h.at)) }
+    // It is the name that `occurrences_at` finds: nothing is said only where that finds none.
+    ensures said { IfOk result (λ hover. IsSaidAt source.now offset hover) }
 {
-    let Some(reading) = read(alloc, source)? else {
-        return Ok(None);
-    };
-    let inner = offset.saturating_add(reading.skip);
-    match occurrences_in(alloc, &reading, source, offset)? {
-        Some(found) => hover_in(alloc, &reading, &found, inner),
+    match read(alloc, source)? {
+        Some(reading) => hover_in(alloc, &reading, source, offset),
         None => Ok(None),
     }
 }

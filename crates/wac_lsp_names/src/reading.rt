@@ -1,4 +1,7 @@
 //! A document as it is read: its text without faulty statements, its tokens and its names.
+ghost use Rattle.std.specs.Prelude.{◌≡◌, ◌≤◌, IfOk, option_map};
+ghost use Rattle.wac_lsp_names.specs.Read.{AreNamesOf, IsLeft, IsRead, attempt_of, read_of};
+
 use crate::lexed::{Lexed, number_at, tokens_of};
 use std::alloc::{AllocError, Global};
 use wac_lexer::SourceSpan;
@@ -26,7 +29,9 @@ pub(crate) struct Reading {
 }
 
 /// How many faulty statements of a text are blanked: fewer of a long one, since each costs a parse.
-fn most_faults(text: &str) -> usize {
+fn most_faults(text: &str) -> usize
+    ensures { 16 ≤ result }
+{
     match MOST_BYTES.checked_div(text.len()) {
         Some(count) => count.min(MOST).max(LEAST),
         None => MOST,
@@ -41,7 +46,9 @@ struct Left {
 }
 
 /// Blanks the faulty statements of a text.
-fn blanked(alloc: Global, source: &str) -> Result<Left, AllocError> {
+fn blanked(alloc: Global, source: &str) -> Result<Left, AllocError>
+    ensures { IfOk result (λ left. IsLeft source.now (attempt_of left)) }
+{
     let recovery = recover(alloc, source, most_faults(source))?;
     let Recovery {
         faults: _,
@@ -51,23 +58,35 @@ fn blanked(alloc: Global, source: &str) -> Result<Left, AllocError> {
     Ok(Left { text, skip })
 }
 
-/// Reads what is left of a text, if it is a document.
-fn read_left(alloc: Global, left: Left) -> Result<Option<Reading>, AllocError> {
+/// What is left of a text, with its names and its tokens.
+fn reading_of(alloc: Global, left: Left, names: Names) -> Result<Reading, AllocError>
+    ensures names { IfOk result (λ reading. (read_of reading).names ≡ names) }
+    ensures skip { IfOk result (λ reading. (read_of reading).skip ≡ (attempt_of left).skip) }
+{
     let Left { text, skip } = left;
-    let Some(names) = Names::of_text(alloc, text.as_str())? else {
-        return Ok(None);
-    };
     let tokens = tokens_of(alloc, text.as_str())?;
-    Ok(Some(Reading {
+    Ok(Reading {
         text,
         skip,
         names,
         tokens,
-    }))
+    })
+}
+
+/// Reads what is left of a text, if it is a document.
+fn read_left(alloc: Global, left: Left) -> Result<Option<Reading>, AllocError>
+    ensures { IfOk result (λ found. AreNamesOf (attempt_of left) (option_map read_of found)) }
+{
+    match Names::of_text(alloc, left.text.as_str())? {
+        Some(names) => Ok(Some(reading_of(alloc, left, names)?)),
+        None => Ok(None),
+    }
 }
 
 /// Reads a text. There is nothing to read where too many statements are faulty.
-pub(crate) fn read(alloc: Global, source: &str) -> Result<Option<Reading>, AllocError> {
+pub(crate) fn read(alloc: Global, source: &str) -> Result<Option<Reading>, AllocError>
+    ensures { IfOk result (λ found. IsRead source.now (option_map read_of found)) }
+{
     read_left(alloc, blanked(alloc, source)?)
 }
 

@@ -1,14 +1,15 @@
 //! Giving a name another one.
-ghost use Rattle.std.specs.Prelude.{◌≡◌, IfOk, IsPermutation};
+ghost use Rattle.std.specs.Prelude.{◌≡◌, IfOk, IsPermutation, Some};
 ghost use Rattle.wac_ast_grammar.specs.Tree.{without_percent};
 ghost use Rattle.wac_names.specs.Places.{name_in};
 ghost use Rattle.wac_lsp_names.specs.Edits.{IsGiven, IsGivenAt, Renames, offsets};
+ghost use Rattle.wac_lsp_names.specs.Read.{IsRead, read_of};
 
 use crate::applied::test_edits;
 use crate::edits::Edit;
 use crate::entries::entries_of;
 use crate::forms::Renaming;
-use crate::occurrences::{Occurrences, occurrences_in};
+use crate::occurrences::{Occurrences, inner, occurrences_in};
 use crate::reading::{Reading, read};
 use crate::refusals::{RenameError, Stopped};
 use crate::sound::{Change, are_sound};
@@ -116,13 +117,13 @@ fn given_at(
     offset: usize,
     new: &str,
 ) -> Result<Vec<Edit>, Stopped>
+    requires { IsRead source.now (Some (read_of reading.now)) }
     ensures { IfOk result (λ edits. IsGivenAt source.now offset new.now edits.items) }
 {
     let Some(found) = occurrences_in(alloc, reading, source, offset)? else {
         return Err(Stopped::Refused(RenameError::NoName));
     };
-    let inner = offset.saturating_add(reading.skip);
-    let Some(number) = reading.names.binding_at(inner) else {
+    let Some(number) = reading.names.binding_at(inner(reading, offset)) else {
         return Err(Stopped::Refused(RenameError::NoName));
     };
     let Some(old) = name_in(source, found.bound) else {
