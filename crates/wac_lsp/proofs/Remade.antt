@@ -1,5 +1,5 @@
 -- The documents after changes.
-use Rattle.std.proofs.Common.{◌≡◌, refl, sym, subst, ℕ, List, [], ◌∷◌, ◌++◌, Some, None}
+use Rattle.std.proofs.Common.{◌≡◌, refl, sym, subst, ℕ, Bool, List, [], ◌∷◌, ◌++◌, Some, None}
 use Rattle.std.specs.Prelude.{MatchOption, Option, String, ℤ, string_bytes}
 use Rattle.std.specs.declared.alloc.Global.{Global}
 use Rattle.wac_positions.specs.declared.place.ColumnUnit.{ColumnUnit}
@@ -9,8 +9,9 @@ use Rattle.wac_lsp.specs.declared.documents.Document.{Document}
 use Rattle.wac_lsp.specs.Opened.{Makes, Puts, Remakes, others, text_in}
 
 -- a document comes last
-pub put_last : (uri text : String Global) (version : Option ℤ) (old new : List Document) → new ≡ others (string_bytes uri) old ++ record { uri = uri; version = version; text = text } ∷ [] → Puts (string_bytes uri) (string_bytes text) old new
-put_last uri text version old new last = record { document = record { uri = uri; version = version; text = text }; named = refl; holds = refl; last = last }
+pub put_last : (uri text : String Global) (version : Option ℤ) (faulty : Bool) (old new : List Document)
+    → new ≡ others (string_bytes uri) old ++ record { uri = uri; version = version; text = text; is_faulty = faulty } ∷ [] → Puts (string_bytes uri) (string_bytes text) old new
+put_last uri text version faulty old new last = record { document = record { uri = uri; version = version; text = text; is_faulty = faulty }; named = refl; holds = refl; last = last }
 
 -- the changes are of the text that is found
 pub makes_of : (unit : ColumnUnit) (uri : List ℕ) (changes : List Change) (documents : List Document) (before after : List ℕ) → text_in uri documents ≡ Some before → Changes unit before changes after → Makes unit uri changes documents after

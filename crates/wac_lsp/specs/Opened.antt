@@ -1,5 +1,5 @@
 -- The documents that a client has open.
-use Rattle.std.specs.Prelude.{◌≡◌, ℕ, List, [], ◌∷◌, ◌++◌, Bool, not, filter, Option, Some, None, MatchOption, string_bytes, if◌then◌else◌}
+use Rattle.std.specs.Prelude.{◌≡◌, ℕ, List, [], ◌∷◌, ◌++◌, Bool, not, filter, find, Option, Some, None, is_none, option_map, MatchOption, string_bytes, if◌then◌else◌}
 use Rattle.std.specs.Str.{bytes_eq}
 use Rattle.wac_positions.specs.declared.place.ColumnUnit.{ColumnUnit}
 use Rattle.wac_lsp_messages.specs.declared.message.Message.{Message}
@@ -11,15 +11,28 @@ use Rattle.wac_lsp_texts.specs.Changed.{Changes}
 use Rattle.wac_lsp.specs.declared.documents.Document.{Document}
 use Rattle.wac_lsp.specs.declared.server.Phase.{Phase}
 use Rattle.wac_lsp.specs.declared.server.Phase.TheVariants as phases
+use Rattle.wac_lsp.specs.declared.server.Server.{Server}
 
 -- whether a document has this name
 abbrev pub is_named : List ℕ → Document → Bool
 is_named uri document = bytes_eq (string_bytes document.uri) uri
 
+-- the document of a name
+abbrev pub document_in : List ℕ → List Document → Option Document
+document_in uri documents = find (is_named uri) documents
+
+-- whether a change of a document couldn't be read, so that its text isn't the client's
+abbrev pub is_lost : Document → Bool
+is_lost document = is_none document.version
+
+-- a document, if its text is known
+abbrev pub known : Option Document → Option Document
+known None = None
+known (Some document) = if is_lost document then None else Some document
+
 -- the text of the document of a name
 abbrev pub text_in : List ℕ → List Document → Option (List ℕ)
-text_in uri [] = None
-text_in uri (document ∷ more) = if is_named uri document then Some (string_bytes document.text) else text_in uri more
+text_in uri documents = option_map (λ document. string_bytes document.text) (document_in uri documents)
 
 -- the documents of other names
 abbrev pub others : List ℕ → List Document → List Document
@@ -70,3 +83,7 @@ Holds phase unit (messages.Notification notice) old new = LeavesIn phase unit no
 Holds phase unit (messages.Request id call) old new = new ≡ old
 Holds phase unit messages.Reply old new = new ≡ old
 Holds phase unit (messages.Wrong why) old new = new ≡ old
+
+-- what a message makes of the open documents of a server
+abbrev pub ServerHolds : Server → Server → Message → Type 0
+ServerHolds old new message = Holds old.phase old.unit message old.documents.items new.documents.items

@@ -6,6 +6,7 @@ use crate::questions::Subject;
 use serde_json::{Value, json};
 use std::alloc::{AllocError, Global};
 use wac_all_errors::Finding;
+use wac_diagnostics::Diagnostic;
 use wac_lexer::SourceSpan;
 use wac_lsp_messages::Range;
 use wac_lsp_texts::offset_at;
@@ -17,15 +18,28 @@ fn touches(part: Part, span: SourceSpan) -> bool {
     span.offset() <= part.end && part.start <= end
 }
 
+/// What is wrong with a document, and an edit that mends it.
+#[derive(Drop)]
+pub struct Mend {
+    /// What is wrong.
+    pub diagnostic: Diagnostic,
+    /// What the edit does, for people.
+    pub title: String,
+    /// The part of the text that is replaced, in bytes.
+    pub span: SourceSpan,
+    /// What comes in its place.
+    pub text: String,
+}
+
 /// Whether what is wrong has a place in a part.
-fn is_in(finding: &Finding, part: Part) -> bool {
-    match finding.diagnostic.span {
+fn is_in(diagnostic: &Diagnostic, part: Part) -> bool {
+    match diagnostic.span {
         Some(span) => touches(part, span),
         None => false,
     }
 }
 
-/// A change that mends a text, and what is said of it.
+/// An edit that mends a text, and what is said of it.
 #[derive(Clone, Copy)]
 struct Cure<'f> {
     title: &'f str,
@@ -33,7 +47,7 @@ struct Cure<'f> {
     text: &'f str,
 }
 
-/// The change that takes a byte order mark away, if that is what was found.
+/// The edit that takes a byte order mark away, if that is what was found.
 fn mark_cure(finding: &Finding) -> Option<Cure<'_>> {
     if finding.diagnostic.code != "wac::byte-order-mark" {
         return None;
@@ -46,7 +60,7 @@ fn mark_cure(finding: &Finding) -> Option<Cure<'_>> {
     })
 }
 
-/// The change that mends what was found, if there is one.
+/// The edit that mends what was found, if there is one.
 fn cure_of(finding: &Finding) -> Option<Cure<'_>> {
     let Some(change) = &finding.edit else {
         return mark_cure(finding);
@@ -61,7 +75,7 @@ fn cure_of(finding: &Finding) -> Option<Cure<'_>> {
     })
 }
 
-/// A change as an edit of a document.
+/// An edit of a document.
 fn edit_value(
     alloc: Global,
     view: &View<'_>,
@@ -74,8 +88,28 @@ fn edit_value(
     workspace_edit(alloc, about, edits)
 }
 
-/// The change that mends what was found, as an action.
+/// An edit that mends what a diagnostic says, as an action.
 fn action_value(
+    alloc: Global,
+    view: &View<'_>,
+    about: &Subject<'_>,
+    diagnostic: &Diagnostic,
+    cure: &Cure<'_>,
+) -> Result<Value, AllocError> {
+    let edit = edit_value(alloc, view, about, cure)?;
+    let diagnostic = diagnostic_value(alloc, view, about, diagnostic)?;
+    let title = cure.title;
+    let action = json!(in alloc; {
+        "title": title,
+        "kind": "quickfix",
+        "diagnostics": [diagnostic],
+        "edit": edit
+    })?;
+    Ok(action)
+}
+
+/// The action for what was found, if an edit mends it.
+fn finding_action(
     alloc: Global,
     view: &View<'_>,
     about: &Subject<'_>,
@@ -84,20 +118,12 @@ fn action_value(
     let Some(cure) = cure_of(finding) else {
         return Ok(None);
     };
-    let edit = edit_value(alloc, view, about, &cure)?;
-    let diagnostic = diagnostic_value(alloc, view, about, &finding.diagnostic)?;
-    let title = cure.title;
-    let action = json!(in alloc; {
-        "title": title,
-        "kind": "quickfix",
-        "diagnostics": [diagnostic],
-        "edit": edit
-    })?;
+    let action = action_value(alloc, view, about, &finding.diagnostic, &cure)?;
     Ok(Some(action))
 }
 
 /// The actions for what was found in a part of a text.
-fn actions_value(
+fn finding_actions(
     alloc: Global,
     view: &View<'_>,
     about: &Subject<'_>,
@@ -106,8 +132,8 @@ fn actions_value(
 ) -> Result<Value, AllocError> {
     let mut actions = Vec::new(alloc);
     for finding in found {
-        if is_in(finding, part) {
-            if let Some(action) = action_value(alloc, view, about, finding)? {
+        if is_in(&finding.diagnostic, part) {
+            if let Some(action) = finding_action(alloc, view, about, finding)? {
                 actions.push(action)?;
             }
         }
@@ -115,25 +141,68 @@ fn actions_value(
     Ok(Value::Array(actions))
 }
 
-/// The changes that mend what is wrong in a part of a text: none for a client that takes commands alone.
+/// The action for what a caller found.
+fn mend_action(
+    alloc: Global,
+    view: &View<'_>,
+    about: &Subject<'_>,
+    mend: &Mend,
+) -> Result<Value, AllocError> {
+    let cure = Cure {
+        title: mend.title.as_str(),
+        span: mend.span,
+        text: mend.text.as_str(),
+    };
+    action_value(alloc, view, about, &mend.diagnostic, &cure)
+}
+
+/// The actions for what a caller found in a part of a text.
+fn mend_actions(
+    alloc: Global,
+    view: &View<'_>,
+    about: &Subject<'_>,
+    part: Part,
+    mends: &[Mend],
+) -> Result<Value, AllocError> {
+    let mut actions = Vec::new(alloc);
+    for mend in mends {
+        if is_in(&mend.diagnostic, part) {
+            actions.push(mend_action(alloc, view, about, mend)?)?;
+        }
+    }
+    Ok(Value::Array(actions))
+}
+
+/// The part of a text that is a range of it.
+fn part_of(alloc: Global, about: &Subject<'_>, range: Range) -> Result<Part, AllocError> {
+    let lines = Lines::new(alloc, about.text)?;
+    let len = about.text.len();
+    Ok(Part {
+        start: offset_at(&lines, len, range.start, about.unit).unwrap_or(0),
+        end: offset_at(&lines, len, range.end, about.unit).unwrap_or(0),
+    })
+}
+
+/// The edits that mend what is wrong in a range of a text: what its errors say, or where it has none what a caller found.
+/// There are none for a client that takes commands alone.
 pub(crate) fn actions(
     alloc: Global,
     about: &Subject<'_>,
     range: Range,
+    mends: &[Mend],
 ) -> Result<Value, AllocError> {
     if !about.features.action_literals {
         return Ok(Value::Array(Vec::new(alloc)));
     }
-    let text = about.text;
-    let unit = about.unit;
-    let found = match errors(alloc, text) {
+    let found = match errors(alloc, about.text) {
         Ok(found) => found,
         Err(_) => return Err(AllocError),
     };
-    let lines = Lines::new(alloc, text)?;
-    let start = offset_at(&lines, text.len(), range.start, unit).unwrap_or(0);
-    let end = offset_at(&lines, text.len(), range.end, unit).unwrap_or(0);
-    let part = Part { start, end };
-    let view = View::new(alloc, text, unit)?;
-    actions_value(alloc, &view, about, part, found.as_slice())
+    let part = part_of(alloc, about, range)?;
+    let view = View::new(alloc, about.text, about.unit)?;
+    if found.is_empty() {
+        mend_actions(alloc, &view, about, part, mends)
+    } else {
+        finding_actions(alloc, &view, about, part, found.as_slice())
+    }
 }

@@ -211,15 +211,45 @@ pub(crate) fn published_lost(alloc: Global, uri: &str) -> Result<String, AllocEr
     publication_of(alloc, uri, None, diagnostics)
 }
 
-/// What is wrong with a document, as a notification: with its text, unless a change of it was lost.
-pub(crate) fn published(alloc: Global, about: &Subject<'_>) -> Result<String, AllocError> {
+/// What is told of a document.
+#[derive(Drop)]
+pub(crate) struct Publication {
+    /// The notification.
+    pub(crate) body: String,
+    /// Whether it has an error of the text.
+    pub(crate) is_faulty: bool,
+}
+
+/// The errors of a text, as a notification.
+fn told_of(
+    alloc: Global,
+    about: &Subject<'_>,
+    found: &[Finding],
+) -> Result<Publication, AllocError> {
+    Ok(Publication {
+        body: published_all(alloc, about, found)?,
+        is_faulty: !found.is_empty(),
+    })
+}
+
+/// What is wrong with a document: with its text, unless a change of it was lost.
+pub(crate) fn told(alloc: Global, about: &Subject<'_>) -> Result<Publication, AllocError> {
     if about.version.is_none() {
-        return published_lost(alloc, about.uri);
+        return Ok(Publication {
+            body: published_lost(alloc, about.uri)?,
+            is_faulty: false,
+        });
     }
     match errors(alloc, about.text) {
-        Ok(found) => published_all(alloc, about, found.as_slice()),
+        Ok(found) => told_of(alloc, about, found.as_slice()),
         Err(_) => Err(AllocError),
     }
+}
+
+/// What is wrong with a document, as a notification.
+pub(crate) fn published(alloc: Global, about: &Subject<'_>) -> Result<String, AllocError> {
+    let Publication { body, .. } = told(alloc, about)?;
+    Ok(body)
 }
 
 /// That a document that was closed has no diagnostics.

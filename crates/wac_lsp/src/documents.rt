@@ -1,6 +1,6 @@
 //! The documents that a client has open.
 ghost use Rattle.std.specs.Prelude.{◌≡◌, ◌∷◌, [], ◌++◌, not, OnOk, option_map, string_bytes};
-ghost use Rattle.wac_lsp.specs.Opened.{is_named, others, text_in};
+ghost use Rattle.wac_lsp.specs.Opened.{document_in, is_named, others, text_in};
 
 use std::alloc::AllocError;
 
@@ -12,9 +12,14 @@ pub struct Document {
     /// then.
     pub(crate) version: Option<i64>,
     pub(crate) text: String,
+    /// Whether the text alone has an error.
+    pub(crate) is_faulty: bool,
 }
 
 impl Document {
+    ghost use Rattle.std.specs.Prelude.{◌≡◌};
+    ghost use Rattle.wac_lsp.specs.Opened.{is_lost};
+
     /// Its name, letter for letter as the client has it.
     pub fn uri(&self) -> &str {
         self.uri.as_str()
@@ -25,8 +30,15 @@ impl Document {
         self.text.as_str()
     }
 
+    /// Whether its text alone has an error, whatever the packages are that it mentions.
+    pub fn is_faulty(&self) -> bool {
+        self.is_faulty
+    }
+
     /// Whether a change of it couldn't be read, so that its text isn't the client's.
-    pub fn is_lost(&self) -> bool {
+    pub fn is_lost(&self) -> bool
+        ensures { result ≡ is_lost self.now }
+    {
         self.version.is_none()
     }
 }
@@ -40,14 +52,9 @@ fn is_named(document: &Document, uri: &str) -> bool
 
 /// The open document of a name.
 pub(crate) fn document_of<'d>(documents: &'d [Document], uri: &str) -> Option<&'d Document>
-    ensures { option_map (λ document. string_bytes document.now.text) result ≡ text_in uri.now documents.now }
+    ensures { option_map (λ document. document.now) result ≡ document_in uri.now documents.now }
 {
-    for document in documents {
-        if is_named(document, uri) {
-            return Some(document);
-        }
-    }
-    None
+    documents.iter().find(|document| is_named(*document, uri))
 }
 
 /// The text of the open document of a name.

@@ -29,6 +29,7 @@ mod symbols;
 mod telling;
 mod tokens;
 
+pub use actions::Mend;
 pub use completing::Suggestion;
 pub use documents::Document;
 pub use server::{Outcome, Sent, Server, answer, sends_reply, step};

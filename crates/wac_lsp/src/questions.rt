@@ -1,5 +1,5 @@
 //! What is asked of an open document, and what that gets.
-ghost use Rattle.std.specs.Prelude.{IfOk, Some};
+ghost use Rattle.std.specs.Prelude.{IfOk, IsOk};
 ghost use Rattle.wac_lsp.specs.Answers.{AnswersQuestion};
 
 use crate::actions::actions;
@@ -35,7 +35,9 @@ pub(crate) struct Subject<'d> {
 }
 
 /// What is asked, where it isn't refused.
-fn found(value: Result<Value, AllocError>) -> Result<Answered, AllocError> {
+fn found(value: Result<Value, AllocError>) -> Result<Answered, AllocError>
+    ensures { IfOk result (λ answered. IsOk answered) }
+{
     match value {
         Ok(value) => Ok(Ok(value)),
         Err(_) => Err(AllocError),
@@ -48,8 +50,7 @@ pub(crate) fn answer_question(
     about: &Subject<'_>,
     question: &Question,
 ) -> Result<Answered, AllocError>
-    ensures { IfOk result (λ answered. IfOk answered
-        (AnswersQuestion about.now.unit (Some about.now.text.now) question.now)) }
+    ensures { IfOk result (AnswersQuestion about.now.unit about.now.text.now question.now) }
 {
     let text = about.text;
     let unit = about.unit;
@@ -64,7 +65,7 @@ pub(crate) fn answer_question(
         Question::SelectionRanges(places) => {
             found(selections(alloc, text, places.as_slice(), unit))
         }
-        Question::CodeActions(range) => found(actions(alloc, about, *range)),
+        Question::CodeActions(range) => found(actions(alloc, about, *range, &[])),
         Question::Completions(place) => found(completed(alloc, text, *place, unit, &[])),
         Question::Definition(place) => found(definition(alloc, about, *place)),
         Question::References(place, with) => found(references(alloc, about, *place, *with)),

@@ -1,14 +1,14 @@
 //! The state of a server, and what it answers.
 ghost use Rattle.std.specs.Prelude.{◌≡◌, [], ◌∷◌, IfOk, Some, string_bytes};
 ghost use Rattle.wac_lsp_messages.specs.Replying.{IsReplyTo};
-ghost use Rattle.wac_lsp.specs.Answers.{AnswersMessage};
-ghost use Rattle.wac_lsp.specs.Opened.{Holds, LeavesIn};
+ghost use Rattle.wac_lsp.specs.Answers.{ServerAnswers};
+ghost use Rattle.wac_lsp.specs.Opened.{LeavesIn, ServerHolds};
 ghost use Rattle.wac_lsp.specs.Replies.{AreReplies, replied_to, replies};
 ghost use Rattle.wac_lsp.specs.Steps.{Steps};
 ghost use Rattle.wac_lsp.specs.declared.server.Sent.TheVariants.{Reply};
 
 use crate::capabilities::capabilities;
-use crate::diagnostics::{published, withdrawn};
+use crate::diagnostics::{Publication, published, told, withdrawn};
 use crate::documents::{Document, close, document_of, put, text_of};
 use crate::questions::{Answered, Subject, answer_question};
 use crate::symbols::workspace_symbols;
@@ -130,11 +130,12 @@ const LOST: Refusal = Refusal {
 };
 
 impl Server {
-    ghost use Rattle.std.specs.Prelude.{◌≡◌, [], IfOk, MatchOption, None, OnOk, Some, string_bytes};
+    ghost use Rattle.std.specs.Prelude.{◌≡◌, ◌↔◌, [], Err, IfOk, IsTrue, MatchOption, None, Ok, OnOk, Some, string_bytes};
     ghost use Rattle.wac_lsp_messages.specs.Replying.{IsReplyTo};
-    ghost use Rattle.wac_lsp.specs.Answers.{AnswersCall, AnswersQuestion, AnswersRequest};
-    ghost use Rattle.wac_lsp.specs.Opened.{Leaves, Makes, Puts, Remakes, text_in};
+    ghost use Rattle.wac_lsp.specs.Answers.{AnswersAbout, AnswersCall, AnswersFirst, AnswersRequest, RepliesTo};
+    ghost use Rattle.wac_lsp.specs.Opened.{Leaves, Makes, Puts, Remakes, document_in, text_in};
     ghost use Rattle.wac_lsp.specs.Replies.{AreReplies, replies};
+    ghost use Rattle.wac_lsp.specs.declared.server.Phase.TheVariants.{Running};
 
     /// A server that wasn't initialized, of a program of this version.
     pub fn new(alloc: Global, version: &'static str) -> Server {
@@ -154,17 +155,23 @@ impl Server {
     }
 
     /// Whether it was initialized, and wasn't asked to prepare for the end.
-    pub fn is_running(&self) -> bool {
+    pub fn is_running(&self) -> bool
+        ensures { IsTrue result ↔ (self.now.phase ≡ Running) }
+    {
         matches!(self.phase, Phase::Running)
     }
 
     /// The documents that the client has open.
-    pub fn documents(&self) -> &[Document] {
+    pub fn documents(&self) -> &[Document]
+        ensures { result.now ≡ self.now.documents.items }
+    {
         self.documents.as_slice()
     }
 
     /// The units of columns.
-    pub(crate) fn unit(&self) -> ColumnUnit {
+    pub(crate) fn unit(&self) -> ColumnUnit
+        ensures { result ≡ self.now.unit }
+    {
         self.unit
     }
 
@@ -209,14 +216,15 @@ impl Server {
     }
 
     /// What a question about a document gets.
+    #[tactic(auto, using(crate::proofs::Open::about_none, crate::proofs::Open::about_lost, crate::proofs::Open::about_known))]
     fn answer_about(
         &self,
         alloc: Global,
         uri: &str,
         question: &Question,
     ) -> Result<Answered, AllocError>
-        ensures { IfOk result (λ answered. IfOk answered
-            (AnswersQuestion self.now.unit (text_in uri.now self.now.documents.items) question.now)) }
+        ensures { IfOk result
+            (AnswersAbout self.now.unit (document_in uri.now self.now.documents.items) question.now) }
     {
         match document_of(self.documents.as_slice(), uri) {
             Some(document) if document.is_lost() => Ok(Err(LOST)),
@@ -226,18 +234,14 @@ impl Server {
     }
 
     /// What open documents declare under names that have a text in them.
-    fn symbols(&self, alloc: Global, query: &str) -> Result<Answered, AllocError> {
-        match workspace_symbols(alloc, self.documents.as_slice(), query, self.unit) {
-            Ok(value) => Ok(Ok(value)),
-            Err(_) => Err(AllocError),
-        }
+    fn symbols(&self, alloc: Global, query: &str) -> Result<Value, AllocError> {
+        workspace_symbols(alloc, self.documents.as_slice(), query, self.unit)
     }
 
-    /// What a request gets before initialize.
+    /// What a call gets before initialize.
     fn answer_new(&mut self, alloc: Global, call: &Call) -> Result<Answered, AllocError>
         ensures keeps { self.new.documents.items ≡ self.old.documents.items }
-        ensures answers { IfOk result (λ answered. IfOk answered
-            (AnswersCall self.old.unit self.old.documents.items call.now)) }
+        ensures answers { IfOk result (AnswersFirst call.now) }
     {
         match call {
             Call::Initialize(Some(client)) => match self.initialize(alloc, client) {
@@ -245,15 +249,16 @@ impl Server {
                 Err(_) => Err(AllocError),
             },
             Call::Initialize(None) => Ok(Err(NO_CAPABILITIES)),
-            _ => Ok(Err(NOT_INITIALIZED)),
+            Call::Shutdown | Call::Document { .. } | Call::WorkspaceSymbols { .. } => {
+                Ok(Err(NOT_INITIALIZED))
+            }
         }
     }
 
-    /// What a request gets between initialize and shutdown.
+    /// What a call gets between initialize and shutdown.
     fn answer_running(&mut self, alloc: Global, call: &Call) -> Result<Answered, AllocError>
         ensures keeps { self.new.documents.items ≡ self.old.documents.items }
-        ensures answers { IfOk result (λ answered. IfOk answered
-            (AnswersCall self.old.unit self.old.documents.items call.now)) }
+        ensures answers { IfOk result (AnswersCall self.old.unit self.old.documents.items call.now) }
     {
         match call {
             Call::Initialize(_) => Ok(Err(NOT_NOW)),
@@ -262,15 +267,15 @@ impl Server {
                 Ok(Ok(Value::Null))
             }
             Call::Document { uri, question } => { self.answer_about(alloc, uri.as_str(), question) }
-            Call::WorkspaceSymbols { query } => self.symbols(alloc, query.as_str()),
+            Call::WorkspaceSymbols { query } => Ok(Ok(self.symbols(alloc, query.as_str())?)),
         }
     }
 
-    /// What a request gets.
+    /// What a call gets.
     fn answer(&mut self, alloc: Global, call: &Call) -> Result<Answered, AllocError>
         ensures keeps { self.new.documents.items ≡ self.old.documents.items }
-        ensures answers { IfOk result (λ answered. IfOk answered
-            (AnswersCall self.old.unit self.old.documents.items call.now)) }
+        ensures answers { IfOk result
+            (AnswersRequest self.old.phase self.old.unit self.old.documents.items (Ok call.now)) }
     {
         let phase = self.phase;
         match phase {
@@ -280,12 +285,30 @@ impl Server {
         }
     }
 
-    /// Why a request is refused that can't be taken for this reason.
-    fn refusal(&self, why: Refusal) -> Refusal {
+    /// What a request gets that can't be read for this reason.
+    fn unread(&self, why: Refusal) -> Answered
+        ensures { AnswersRequest self.now.phase self.now.unit self.now.documents.items (Err why) result }
+    {
         match self.phase {
-            Phase::New => NOT_INITIALIZED,
-            Phase::Running => why,
-            Phase::ShutDown => NOT_NOW,
+            Phase::New => Err(NOT_INITIALIZED),
+            Phase::Running => Err(why),
+            Phase::ShutDown => Err(NOT_NOW),
+        }
+    }
+
+    /// What a request gets.
+    fn answered(
+        &mut self,
+        alloc: Global,
+        call: Result<Call, Refusal>,
+    ) -> Result<Answered, AllocError>
+        ensures keeps { self.new.documents.items ≡ self.old.documents.items }
+        ensures answers { IfOk result
+            (AnswersRequest self.old.phase self.old.unit self.old.documents.items call) }
+    {
+        match call {
+            Ok(call) => self.answer(alloc, &call),
+            Err(why) => Ok(self.unread(why)),
         }
     }
 
@@ -298,14 +321,10 @@ impl Server {
     ) -> Result<String, AllocError>
         ensures written { IfOk result (λ body. IsReplyTo (Some id.now) (string_bytes body)) }
         ensures replies { IfOk result (λ body.
-            AnswersRequest self.old.unit self.old.documents.items call (string_bytes body)) }
+            RepliesTo self.old.phase self.old.unit self.old.documents.items call (string_bytes body)) }
         ensures keeps { self.new.documents.items ≡ self.old.documents.items }
     {
-        let answer = match call {
-            Ok(call) => self.answer(alloc, &call)?,
-            Err(why) => Err(self.refusal(why)),
-        };
-        match answer {
+        match self.answered(alloc, call)? {
             Ok(value) => reply(alloc, id, value),
             Err(why) => refused(alloc, Some(id), why),
         }
@@ -324,10 +343,16 @@ impl Server {
         ensures puts { OnOk result
             (Puts (string_bytes uri) (string_bytes text) self.old.documents.items self.new.documents.items) }
     {
-        let document = Document { uri, version, text };
-        let told = published(alloc, &self.about(&document))?;
+        let mut document = Document {
+            uri,
+            version,
+            text,
+            is_faulty: false,
+        };
+        let Publication { body, is_faulty } = told(alloc, &self.about(&document))?;
+        document.is_faulty = is_faulty;
         put(&mut self.documents, document)?;
-        Ok(told)
+        Ok(body)
     }
 
     /// The text of a document after changes: none where it isn't open.
@@ -514,12 +539,12 @@ pub fn answer(alloc: Global, server: &mut Server, message: Message) -> Result<Ou
     ensures ids { IfOk result (λ outcome. replies outcome.messages.items ≡ replied_to message) }
     // The text of each reply has its id.
     ensures written { IfOk result (λ outcome. AreReplies outcome.messages.items) }
-    // A request for a document's layout gets edits that lay out its text, or an error; what can't be read gets an error.
-    ensures answers { IfOk result (λ outcome.
-        AnswersMessage server.old.unit server.old.documents.items message outcome.messages.items) }
+    // A request is refused, with the code that says so, just where it can't be read, comes before initialize or after
+    // shutdown, or is about a document that isn't open or whose change was lost; but edits may be refused too. Else it gets a
+    // value: one for a document's layout the edits that lay out its text.
+    ensures answers { IfOk result (λ outcome. ServerAnswers server.old message outcome.messages.items) }
     // The text of a document is that with which it was opened, after all changes that came since.
-    ensures holds { IfOk result (λ _.
-        Holds server.old.phase server.old.unit message server.old.documents.items server.new.documents.items) }
+    ensures holds { IfOk result (λ _. ServerHolds server.old server.new message) }
 {
     match message {
         Message::Request { id, call } => {
@@ -539,8 +564,7 @@ pub fn answer(alloc: Global, server: &mut Server, message: Message) -> Result<Ou
 #[tactic(auto, using(crate::proofs::Stepping::stepped))]
 pub fn step(alloc: Global, server: &mut Server, body: &[u8]) -> Result<Outcome, ChangeError>
     // It is what `answer` does after the message that the body is.
-    ensures { IfOk result (λ outcome. Steps server.old.phase server.old.unit body.now
-        server.old.documents.items server.new.documents.items outcome.messages.items) }
+    ensures { IfOk result (λ outcome. Steps server.old server.new body.now outcome.messages.items) }
 {
     let message = read_message(alloc, body)?;
     answer(alloc, server, message)

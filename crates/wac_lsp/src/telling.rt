@@ -1,6 +1,10 @@
 //! What a caller that knows more than the open documents tells of them.
+ghost use Rattle.std.specs.Prelude.{◌≡◌, option_map};
+ghost use Rattle.wac_lsp.specs.Opened.{document_in, known};
+
+use crate::actions::{Mend, actions};
 use crate::completing::{Suggestion, completed};
-use crate::diagnostics::{errors, published_all, published_lost};
+use crate::diagnostics::{published, published_all, published_lost};
 use crate::documents::{Document, document_of};
 use crate::navigation::location;
 use crate::places::View;
@@ -9,15 +13,24 @@ use serde_json::Value;
 use std::alloc::{AllocError, Global};
 use wac_diagnostics::Diagnostic;
 use wac_lexer::SourceSpan;
+use wac_lsp_messages::Range;
 use wac_lsp_texts::offset_at;
 use wac_positions::{Lines, Place};
 
 impl Server {
+    ghost use Rattle.std.specs.Prelude.{◌≡◌, option_map};
+    ghost use Rattle.wac_lsp.specs.Opened.{document_in, known};
+
     /// The open document of a name, unless a change of it was lost.
-    pub fn document(&self, uri: &str) -> Option<&Document> {
-        match document_of(self.documents(), uri) {
-            Some(document) if !document.is_lost() => Some(document),
-            _ => None,
+    #[tactic(auto, using(crate::proofs::Open::known_is, crate::proofs::Open::lost_is_unknown))]
+    pub fn document(&self, uri: &str) -> Option<&Document>
+        ensures { option_map (λ document. document.now) result ≡ known (document_in uri.now self.now.documents.items) }
+    {
+        let document = document_of(self.documents(), uri)?;
+        if document.is_lost() {
+            None
+        } else {
+            Some(document)
         }
     }
 
@@ -33,10 +46,10 @@ impl Server {
             return published_lost(alloc, document.uri());
         }
         let about = self.about(document);
-        match errors(alloc, about.text) {
-            Ok(found) if found.is_empty() => published_all(alloc, &about, others),
-            Ok(found) => published_all(alloc, &about, found.as_slice()),
-            Err(_) => Err(AllocError),
+        if document.is_faulty {
+            published(alloc, &about)
+        } else {
+            published_all(alloc, &about, others)
         }
     }
 
@@ -68,5 +81,16 @@ impl Server {
         suggestions: &[Suggestion<'_>],
     ) -> Result<Value, AllocError> {
         completed(alloc, document.text(), place, self.unit(), suggestions)
+    }
+    /// The answer to the question what mends a range of an open document: what the errors of its text say, or where it has
+    /// none what a caller found.
+    pub fn actions(
+        &self,
+        alloc: Global,
+        document: &Document,
+        range: Range,
+        mends: &[Mend],
+    ) -> Result<Value, AllocError> {
+        actions(alloc, &self.about(document), range, mends)
     }
 }
