@@ -12,6 +12,7 @@
 mod completions;
 mod definitions;
 mod hovering;
+mod mending;
 mod refreshing;
 mod serving;
 mod session;

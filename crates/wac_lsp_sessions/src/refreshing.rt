@@ -13,13 +13,13 @@ use wac_lsp_workspace::Workspace;
 /// The number of a warning among the messages of a log.
 const WARNING: u8 = 2;
 
-/// What the workspace says of a document: nothing of one whose text isn't known.
+/// What the workspace says of a document: nothing of one whose text isn't known, or has an error by itself.
 pub(crate) fn said_of(
     alloc: Global,
     workspace: &Workspace,
     document: &Document,
 ) -> Result<Vec<Diagnostic>, AllocError> {
-    if document.is_lost() {
+    if document.is_lost() || document.is_faulty() {
         return Ok(Vec::new(alloc));
     }
     match path_of_uri(alloc, document.uri())? {

@@ -1,11 +1,15 @@
 //! A session: a server, and what is known of the folders that its client has open.
-ghost use Rattle.std.specs.Prelude.{◌≡◌, [], ◌∷◌, IfOk, Some};
+ghost use Rattle.std.specs.Prelude.{◌≡◌, [], ◌∷◌, IfOk, IfSome, Ok, Some};
+ghost use Rattle.wac_lsp.specs.Answers.{AnswersCall, AnswersRequest, ServerAnswers};
+ghost use Rattle.wac_lsp.specs.Opened.{ServerHolds};
 ghost use Rattle.wac_lsp.specs.Replies.{AreReplies, replied_to, replies};
-ghost use Rattle.wac_lsp_sessions.specs.Answering.{Answers};
+ghost use Rattle.wac_lsp.specs.Steps.{Steps};
+ghost use Rattle.wac_lsp_messages.specs.declared.message.Message.TheVariants.{Notification, Request};
 
 use crate::completions::completed_at;
 use crate::definitions::declared_at;
 use crate::hovering::hovered_at;
+use crate::mending::mended_at;
 use crate::refreshing::{all_published, logged, said_of};
 use crate::watching::{Touched, touched_by, watch_request, watches_files};
 use serde_json::Value;
@@ -137,8 +141,9 @@ impl Session {
     ///
     /// The errors are those of `answer` of `wac_lsp`: that memory ran out, or that a change has a place without an offset.
     pub fn step(&mut self, alloc: Global, body: &[u8]) -> Result<Stepped, ChangeError>
-        // The replies are those to a message that the body is, and the text of each has its id.
-        ensures { IfOk result (λ stepped. Answers body.now stepped.outcome.messages.items) }
+        // What is promised of `step` of `wac_lsp` holds of the server within.
+        ensures { IfOk result (λ stepped.
+            Steps self.old.server self.new.server body.now stepped.outcome.messages.items) }
     {
         let message = read_message(alloc, body)?;
         self.prepared(alloc, body, message)
@@ -153,13 +158,18 @@ impl Session {
     ) -> Result<Stepped, ChangeError>
         ensures ids { IfOk result (λ stepped. replies stepped.outcome.messages.items ≡ replied_to message) }
         ensures written { IfOk result (λ stepped. AreReplies stepped.outcome.messages.items) }
+        ensures answers { IfOk result (λ stepped.
+            ServerAnswers self.old.server message stepped.outcome.messages.items) }
+        ensures holds { IfOk result (λ _. ServerHolds self.old.server self.new.server message) }
     {
         self.prepare(alloc, body, &message)?;
         self.answer(alloc, message)
     }
 
     /// Takes what a client says of its folders, if this is the message with which it begins.
-    fn prepare(&mut self, alloc: Global, body: &[u8], message: &Message) -> Result<(), AllocError> {
+    fn prepare(&mut self, alloc: Global, body: &[u8], message: &Message) -> Result<(), AllocError>
+        ensures { self.new.server ≡ self.old.server }
+    {
         if begins(message) && self.server.is_new() {
             self.begin(alloc, body)?;
         }
@@ -167,7 +177,9 @@ impl Session {
     }
 
     /// Takes what a client says of its folders.
-    fn begin(&mut self, alloc: Global, body: &[u8]) -> Result<(), AllocError> {
+    fn begin(&mut self, alloc: Global, body: &[u8]) -> Result<(), AllocError>
+        ensures { self.new.server ≡ self.old.server }
+    {
         let folders = client_folders(alloc, body)?;
         self.workspace = Workspace::new(alloc, folders);
         self.watches_files = watches_files(alloc, body)?;
@@ -180,6 +192,11 @@ impl Session {
         ensures ids { IfOk result (λ stepped. replies stepped.outcome.messages.items ≡ replied_to message) }
         // The text of each reply has its id.
         ensures written { IfOk result (λ stepped. AreReplies stepped.outcome.messages.items) }
+        // It has what `answer` of `wac_lsp` replies: a request is refused just where that refuses it.
+        ensures answers { IfOk result (λ stepped.
+            ServerAnswers self.old.server message stepped.outcome.messages.items) }
+        // The text of a document is that with which it was opened, after all changes that came since.
+        ensures holds { IfOk result (λ _. ServerHolds self.old.server self.new.server message) }
     {
         match message {
             Message::Notification(notice) => self.noticed(alloc, notice),
@@ -188,9 +205,13 @@ impl Session {
         }
     }
 
-    /// What a request gets that asks where something is declared, what is said of it, or what can stand at a place, if a
-    /// package of the folders has the answer.
-    fn asked(&self, alloc: Global, call: &Call) -> Result<Option<Value>, AllocError> {
+    /// What a request gets that asks where something is declared, what is said of it, what can stand at a place, or what
+    /// mends a range, if a package of the folders has the answer.
+    #[tactic(auto, using(wac_lsp::proofs::Open::about_asked))]
+    fn asked(&self, alloc: Global, call: &Call) -> Result<Option<Value>, AllocError>
+        ensures { IfOk result (λ found. IfSome found (λ value.
+            AnswersCall self.now.server.unit self.now.server.documents.items call.now (Ok value))) }
+    {
         let Call::Document { uri, question } = call else {
             return Ok(None);
         };
@@ -207,6 +228,9 @@ impl Session {
             Question::Completions(place) => {
                 completed_at(alloc, &self.server, &self.workspace, document, *place)
             }
+            Question::CodeActions(range) => {
+                mended_at(alloc, &self.server, &self.workspace, document, *range)
+            }
             _ => Ok(None),
         }
     }
@@ -216,10 +240,16 @@ impl Session {
         &self,
         alloc: Global,
         call: &Result<Call, Refusal>,
-    ) -> Result<Option<Value>, AllocError> {
+    ) -> Result<Option<Value>, AllocError>
+        ensures { IfOk result (λ found. IfSome found (λ value. AnswersRequest self.now.server.phase
+            self.now.server.unit self.now.server.documents.items call.now (Ok value))) }
+    {
+        if !self.server.is_running() {
+            return Ok(None);
+        }
         match call {
-            Ok(call) if self.server.is_running() => self.asked(alloc, call),
-            _ => Ok(None),
+            Ok(call) => self.asked(alloc, call),
+            Err(_) => Ok(None),
         }
     }
 
@@ -232,6 +262,9 @@ impl Session {
     ) -> Result<Stepped, ChangeError>
         ensures ids { IfOk result (λ stepped. replies stepped.outcome.messages.items ≡ Some id ∷ []) }
         ensures written { IfOk result (λ stepped. AreReplies stepped.outcome.messages.items) }
+        ensures answers { IfOk result (λ stepped.
+            ServerAnswers self.old.server (Request id call) stepped.outcome.messages.items) }
+        ensures holds { IfOk result (λ _. ServerHolds self.old.server self.new.server (Request id call)) }
     {
         match self.declared(alloc, &call)? {
             Some(value) => {
@@ -249,6 +282,7 @@ impl Session {
     fn noticed(&mut self, alloc: Global, notice: Notice) -> Result<Stepped, ChangeError>
         ensures ids { IfOk result (λ stepped. replies stepped.outcome.messages.items ≡ []) }
         ensures written { IfOk result (λ stepped. AreReplies stepped.outcome.messages.items) }
+        ensures holds { IfOk result (λ _. ServerHolds self.old.server self.new.server (Notification notice)) }
     {
         let touched = touched_by(alloc, &notice)?;
         let outcome = answer(alloc, &mut self.server, Message::Notification(notice))?;
@@ -274,6 +308,7 @@ impl Session {
         requires written { AreReplies outcome.messages.items }
         ensures ids { IfOk result (λ stepped. replies stepped.outcome.messages.items ≡ []) }
         ensures written { IfOk result (λ stepped. AreReplies stepped.outcome.messages.items) }
+        ensures keeps { self.new.server ≡ self.old.server }
     {
         match touched {
             Touched::Nothing => Ok(stays(outcome)),
@@ -303,7 +338,9 @@ impl Session {
         alloc: Global,
         added: Vec<String>,
         removed: &[String],
-    ) -> Result<(), AllocError> {
+    ) -> Result<(), AllocError>
+        ensures { self.new.server ≡ self.old.server }
+    {
         self.workspace.change_folders(alloc, added, removed)?;
         put_all(alloc, &mut self.workspace, self.server.documents())
     }
@@ -314,6 +351,7 @@ impl Session {
         requires written { AreReplies outcome.messages.items }
         ensures ids { IfOk result (λ outcome. replies outcome.messages.items ≡ []) }
         ensures written { IfOk result (λ outcome. AreReplies outcome.messages.items) }
+        ensures keeps { self.new.server ≡ self.old.server }
     {
         if !self.watches_files || self.folders().is_empty() {
             return Ok(outcome);
@@ -324,7 +362,9 @@ impl Session {
     }
 
     /// Takes the text of a document that was opened or changed. Returns whether packages were made anew.
-    fn take_text(&mut self, alloc: Global, uri: &str) -> Result<bool, AllocError> {
+    fn take_text(&mut self, alloc: Global, uri: &str) -> Result<bool, AllocError>
+        ensures { self.new.server ≡ self.old.server }
+    {
         let Some(document) = self.server.document(uri) else {
             return Ok(false);
         };
@@ -348,6 +388,7 @@ impl Session {
         requires written { AreReplies outcome.messages.items }
         ensures ids { IfOk result (λ outcome. replies outcome.messages.items ≡ []) }
         ensures written { IfOk result (λ outcome. AreReplies outcome.messages.items) }
+        ensures keeps { self.new.server ≡ self.old.server }
     {
         if self.take_text(alloc, uri)? {
             return Ok(with_messages(outcome, self.refreshed(alloc)?));
@@ -385,6 +426,7 @@ impl Session {
         requires written { AreReplies outcome.messages.items }
         ensures ids { IfOk result (λ stepped. replies stepped.outcome.messages.items ≡ []) }
         ensures written { IfOk result (λ stepped. AreReplies stepped.outcome.messages.items) }
+        ensures keeps { self.new.server ≡ self.old.server }
     {
         let Some(path) = path_of_uri(alloc, uri)? else {
             return Ok(stays(outcome));
@@ -403,6 +445,7 @@ impl Session {
     pub fn take(&mut self, alloc: Global, contents: FolderContents) -> Result<Vec<Sent>, AllocError>
         ensures ids { IfOk result (λ messages. replies messages.items ≡ []) }
         ensures written { IfOk result (λ messages. AreReplies messages.items) }
+        ensures keeps { self.new.server ≡ self.old.server }
     {
         let passed_over = self.workspace.take(alloc, contents)?;
         let mut messages = self.refreshed(alloc)?;

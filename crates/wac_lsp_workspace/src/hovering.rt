@@ -25,7 +25,7 @@ fn names(token: Token) -> bool {
 }
 
 /// Where the name at an offset is, or just before it.
-fn name_at(text: &str, offset: usize) -> Option<SourceSpan> {
+pub(crate) fn name_at(text: &str, offset: usize) -> Option<SourceSpan> {
     let Ok(mut lexer) = Lexer::new(accepted(text)) else {
         return None;
     };

@@ -10,6 +10,7 @@
 //! let declared = workspace.declaration_at(alloc, text, offset)?;      // of `new a:b`, of `a:b/i`, of `use a:b/i.{t}`, of `x.f`
 //! let described = workspace.described_at(alloc, text, offset)?;        // the same, and of components what is shown of them
 //! let names = workspace.names_at(alloc, text, offset)?;               // in `new a:b { `, behind `x.`, `new ` and `use `
+//! let mended = workspace.mended(alloc, path, text)?;                  // what `diagnose` says, with edits that mend it
 //! ```
 //!
 //! A document has a package if it has no target and no statement but those of types; every other one is a composition.
@@ -23,6 +24,7 @@ mod denoting;
 mod details;
 mod hovering;
 mod kinds;
+mod mending;
 mod named;
 mod offering;
 mod packages;
@@ -38,5 +40,6 @@ pub use contents::{FolderContents, read_folders};
 pub use declarations::Declaration;
 pub use hovering::Described;
 pub use kinds::is_declaration;
+pub use mending::Mended;
 pub use offering::{Offer, Offered, Offers};
 pub use workspace::Workspace;

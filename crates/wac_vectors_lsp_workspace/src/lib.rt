@@ -11,6 +11,8 @@ mod folders;
 #[cfg(test)]
 mod kinds;
 #[cfg(test)]
+mod mended;
+#[cfg(test)]
 mod mistakes;
 #[cfg(test)]
 mod offered;

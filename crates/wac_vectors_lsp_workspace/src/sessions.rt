@@ -24,12 +24,12 @@ fn files_of(alloc: Global) -> Result<MemoryFiles, AllocError> {
     Ok(files)
 }
 
-/// A client begins that can be asked to watch files. The reply is that of a server without folders.
+/// A client begins that can be asked to watch files, and takes actions. The reply is that of a server without folders.
 const BEGINS: &str =
-    "{\"id\":1,\"jsonrpc\":\"2.0\",\"method\":\"initialize\",\"params\":{\"capabilities\":{\"textDocument\":{\"publishDiagnostics\":{\"relatedInformation\":true}},\"workspace\":{\"didChangeWatchedFiles\":{\"dynamicRegistration\":true}}},\"workspaceFolders\":[{\"name\":\"p\",\"uri\":\"file:///my%20project\"}]}}";
+    "{\"id\":1,\"jsonrpc\":\"2.0\",\"method\":\"initialize\",\"params\":{\"capabilities\":{\"textDocument\":{\"codeAction\":{\"codeActionLiteralSupport\":{\"codeActionKind\":{\"valueSet\":[]}}},\"publishDiagnostics\":{\"relatedInformation\":true}},\"workspace\":{\"didChangeWatchedFiles\":{\"dynamicRegistration\":true}}},\"workspaceFolders\":[{\"name\":\"p\",\"uri\":\"file:///my%20project\"}]}}";
 
 /// A composition with `a:b` is opened, and the document of `a:b` is opened, changed, changed back and closed.
-static ROWS: [Row; 15] = [
+static ROWS: [Row; 18] = [
     (
         "{\"jsonrpc\":\"2.0\",\"method\":\"initialized\",\"params\":{}}",
         "{\"id\":\"files\",\"jsonrpc\":\"2.0\",\"method\":\"client/registerCapability\",\"params\":{\"registrations\":[{\"id\":\"files\",\"method\":\"workspace/didChangeWatchedFiles\",\"registerOptions\":{\"watchers\":[{\"globPattern\":\"**/*.{wac,wasm}\"}]}}]}}\n",
@@ -93,6 +93,19 @@ static ROWS: [Row; 15] = [
     (
         "{\"jsonrpc\":\"2.0\",\"method\":\"workspace/didChangeWatchedFiles\",\"params\":{\"changes\":[]}}",
         "{\"jsonrpc\":\"2.0\",\"method\":\"textDocument/publishDiagnostics\",\"params\":{\"diagnostics\":[],\"uri\":\"file:///my%20project/app.wac\",\"version\":2}}\n",
+    ),
+    // A package that there isn't: the edit that mends it, of a range that touches the name, and of one that doesn't.
+    (
+        "{\"jsonrpc\":\"2.0\",\"method\":\"textDocument/didChange\",\"params\":{\"contentChanges\":[{\"text\":\"package a:app;\\nlet x = new a:d { };\\n\"}],\"textDocument\":{\"uri\":\"file:///my%20project/app.wac\",\"version\":3}}}",
+        "{\"jsonrpc\":\"2.0\",\"method\":\"textDocument/publishDiagnostics\",\"params\":{\"diagnostics\":[{\"code\":\"wac::unknown-package\",\"message\":\"unknown package `a:d`\\nno file of the folders has it\",\"range\":{\"end\":{\"character\":15,\"line\":1},\"start\":{\"character\":12,\"line\":1}},\"relatedInformation\":[],\"severity\":1,\"source\":\"wac\"}],\"uri\":\"file:///my%20project/app.wac\",\"version\":3}}\n",
+    ),
+    (
+        "{\"id\":9,\"jsonrpc\":\"2.0\",\"method\":\"textDocument/codeAction\",\"params\":{\"context\":{\"diagnostics\":[]},\"range\":{\"end\":{\"character\":13,\"line\":1},\"start\":{\"character\":13,\"line\":1}},\"textDocument\":{\"uri\":\"file:///my%20project/app.wac\"}}}",
+        "{\"id\":9,\"jsonrpc\":\"2.0\",\"result\":[{\"diagnostics\":[{\"code\":\"wac::unknown-package\",\"message\":\"unknown package `a:d`\\nno file of the folders has it\",\"range\":{\"end\":{\"character\":15,\"line\":1},\"start\":{\"character\":12,\"line\":1}},\"relatedInformation\":[],\"severity\":1,\"source\":\"wac\"}],\"edit\":{\"changes\":{\"file:///my%20project/app.wac\":[{\"newText\":\"a:b\",\"range\":{\"end\":{\"character\":15,\"line\":1},\"start\":{\"character\":12,\"line\":1}}}]}},\"kind\":\"quickfix\",\"title\":\"write `a:b`\"}]}\n",
+    ),
+    (
+        "{\"id\":10,\"jsonrpc\":\"2.0\",\"method\":\"textDocument/codeAction\",\"params\":{\"context\":{\"diagnostics\":[]},\"range\":{\"end\":{\"character\":3,\"line\":0},\"start\":{\"character\":0,\"line\":0}},\"textDocument\":{\"uri\":\"file:///my%20project/app.wac\"}}}",
+        "{\"id\":10,\"jsonrpc\":\"2.0\",\"result\":[]}\n",
     ),
 ];
 
