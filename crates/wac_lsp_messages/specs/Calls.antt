@@ -57,7 +57,7 @@ pub data KnownRequest : Type 0 where
   workspace_symbols : KnownRequest
   of_document : Topic → KnownRequest
 
--- the method of each
+-- the method that asks it about places of a document
 abbrev pub place_method : PlaceTopic → List ℕ
 place_method selection_ranges = codes "textDocument/selectionRange"
 place_method completions = codes "textDocument/completion"
@@ -68,6 +68,7 @@ place_method hover = codes "textDocument/hover"
 place_method prepare_rename = codes "textDocument/prepareRename"
 place_method rename = codes "textDocument/rename"
 
+-- the method that asks it about a document
 abbrev pub topic_method : Topic → List ℕ
 topic_method formatting = codes "textDocument/formatting"
 topic_method range_formatting = codes "textDocument/rangeFormatting"
@@ -77,19 +78,21 @@ topic_method folding_ranges = codes "textDocument/foldingRange"
 topic_method code_actions = codes "textDocument/codeAction"
 topic_method (of_places topic) = place_method topic
 
+-- the method of a request that the server knows
 abbrev pub request_method : KnownRequest → List ℕ
 request_method initialize = codes "initialize"
 request_method shutdown = codes "shutdown"
 request_method workspace_symbols = codes "workspace/symbol"
 request_method (of_document topic) = topic_method topic
 
--- parameters lack what each needs
+-- The parameters lack what a question about places needs: the place, or what else it is about.
 abbrev pub PlaceLacks : PlaceTopic → Data → Type 0
 PlaceLacks selection_ranges params = positions_in params ≡ None
 PlaceLacks references params = (position_in params ≡ None) ⊎ (declaration_in params ≡ None)
 PlaceLacks rename params = (position_in params ≡ None) ⊎ (text_in (codes "newName") params ≡ None)
 PlaceLacks topic params = position_in params ≡ None
 
+-- The parameters lack what a question about a document needs, beside the document.
 abbrev pub TopicLacks : Topic → Data → Type 0
 TopicLacks formatting params = options_in params ≡ None
 TopicLacks range_formatting params = (options_in params ≡ None) ⊎ (range_in (codes "range") params ≡ None)
@@ -97,9 +100,11 @@ TopicLacks code_actions params = range_in (codes "range") params ≡ None
 TopicLacks (of_places topic) params = PlaceLacks topic params
 TopicLacks topic params = ⊥
 
+-- The parameters lack the document, or what the question about it needs.
 abbrev pub DocumentLacks : Topic → Data → Type 0
 DocumentLacks topic params = (uri_in params ≡ None) ⊎ TopicLacks topic params
 
+-- The parameters lack what a request that the server knows needs.
 abbrev pub RequestLacks : KnownRequest → Data → Type 0
 RequestLacks workspace_symbols params = text_in (codes "query") params ≡ None
 RequestLacks (of_document topic) params = DocumentLacks topic params
