@@ -33,3 +33,4 @@ pub use actions::Mend;
 pub use completing::Suggestion;
 pub use documents::Document;
 pub use server::{Outcome, Sent, Server, answer, sends_reply, step};
+pub use symbols::SavedText;

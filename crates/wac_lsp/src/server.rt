@@ -11,7 +11,7 @@ use crate::capabilities::capabilities;
 use crate::diagnostics::{Publication, published, told, withdrawn};
 use crate::documents::{Document, close, document_of, put, text_of};
 use crate::questions::{Answered, Subject, answer_question};
-use crate::symbols::workspace_symbols;
+use crate::symbols::{SavedText, workspace_symbols};
 use serde_json::{Value, json};
 use std::alloc::{AllocError, Global};
 use wac_lsp_messages::{
@@ -233,9 +233,15 @@ impl Server {
         }
     }
 
-    /// What open documents declare under names that have a text in them.
-    fn symbols(&self, alloc: Global, query: &str) -> Result<Value, AllocError> {
-        workspace_symbols(alloc, self.documents.as_slice(), query, self.unit)
+    /// What open documents declare under names that have a text in them, and these documents, which aren't open: symbols as
+    /// the protocol has them, each with its kind and its place.
+    pub fn symbols(
+        &self,
+        alloc: Global,
+        query: &str,
+        saved: &[SavedText<'_>],
+    ) -> Result<Value, AllocError> {
+        workspace_symbols(alloc, self.documents.as_slice(), saved, query, self.unit)
     }
 
     /// What a call gets before initialize.
@@ -267,7 +273,7 @@ impl Server {
                 Ok(Ok(Value::Null))
             }
             Call::Document { uri, question } => { self.answer_about(alloc, uri.as_str(), question) }
-            Call::WorkspaceSymbols { query } => Ok(Ok(self.symbols(alloc, query.as_str())?)),
+            Call::WorkspaceSymbols { query } => Ok(Ok(self.symbols(alloc, query.as_str(), &[])?)),
         }
     }
 

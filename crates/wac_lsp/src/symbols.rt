@@ -158,41 +158,69 @@ pub(crate) fn symbols(alloc: Global, about: &Subject<'_>) -> Result<Value, Alloc
     Ok(Value::Array(values))
 }
 
-/// Adds those declarations of a document whose names have a text in them.
-fn add_named(
-    alloc: Global,
-    document: &Document,
-    query: &str,
-    unit: ColumnUnit,
-    values: &mut Vec<Value>,
-) -> Result<(), AllocError> {
-    let text = document.text.as_str();
-    let view = View::new(alloc, text, unit)?;
-    let all = outline(alloc, accepted(text))?;
-    for symbol in all.as_slice() {
-        if text_of(text, symbol.name).contains(query) {
-            let value = flat(alloc, &view, document.uri.as_str(), text, symbol)?;
-            if values.push(value).is_err() {
-                return Err(AllocError);
-            }
-        }
-    }
-    Ok(())
+/// A document that isn't open, as its file has it.
+#[derive(Drop)]
+pub struct SavedText<'t> {
+    /// The name by which the client would open it.
+    pub uri: String,
+    pub text: &'t str,
 }
 
-/// What documents declare under names that have a text in them.
+/// The declarations whose names have a text in them.
+#[derive(Drop)]
+struct Matches<'q> {
+    query: &'q str,
+    unit: ColumnUnit,
+    values: Vec<Value>,
+}
+
+impl<'q> Matches<'q> {
+    /// Adds those of a document.
+    fn add(&mut self, alloc: Global, uri: &str, text: &str) -> Result<(), AllocError> {
+        let view = View::new(alloc, text, self.unit)?;
+        let all = outline(alloc, accepted(text))?;
+        for symbol in all.as_slice() {
+            if text_of(text, symbol.name).contains(self.query) {
+                self.values.push(flat(alloc, &view, uri, text, symbol)?)?;
+            }
+        }
+        Ok(())
+    }
+
+    /// Adds those of open documents whose texts are known.
+    fn add_open(&mut self, alloc: Global, documents: &[Document]) -> Result<(), AllocError> {
+        for document in documents {
+            if !document.is_lost() {
+                self.add(alloc, document.uri.as_str(), document.text.as_str())?;
+            }
+        }
+        Ok(())
+    }
+
+    /// Adds those of documents that aren't open.
+    fn add_saved(&mut self, alloc: Global, documents: &[SavedText<'_>]) -> Result<(), AllocError> {
+        for document in documents {
+            self.add(alloc, document.uri.as_str(), document.text)?;
+        }
+        Ok(())
+    }
+}
+
+/// What open documents declare under names that have a text in them, and behind it what those declare that aren't open.
 pub(crate) fn workspace_symbols(
     alloc: Global,
-    documents: &[Document],
+    open: &[Document],
+    saved: &[SavedText<'_>],
     query: &str,
     unit: ColumnUnit,
 ) -> Result<Value, AllocError> {
-    let mut values = Vec::new(alloc);
-    for document in documents {
-        if document.is_lost() {
-            continue;
-        }
-        add_named(alloc, document, query, unit, &mut values)?;
-    }
+    let mut matches = Matches {
+        query,
+        unit,
+        values: Vec::new(alloc),
+    };
+    matches.add_open(alloc, open)?;
+    matches.add_saved(alloc, saved)?;
+    let Matches { values, .. } = matches;
     Ok(Value::Array(values))
 }

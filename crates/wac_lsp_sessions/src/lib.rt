@@ -16,6 +16,7 @@ mod mending;
 mod refreshing;
 mod serving;
 mod session;
+mod symbols;
 mod watching;
 
 pub use serving::{ServeError, serve};

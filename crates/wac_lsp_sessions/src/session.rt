@@ -1,7 +1,7 @@
 //! A session: a server, and what is known of the folders that its client has open.
 ghost use Rattle.std.specs.Prelude.{◌≡◌, [], ◌∷◌, IfOk, IfSome, Ok, Some};
-ghost use Rattle.wac_lsp.specs.Answers.{AnswersCall, AnswersRequest, ServerAnswers};
-ghost use Rattle.wac_lsp.specs.Opened.{ServerHolds};
+ghost use Rattle.wac_lsp.specs.Answers.{AnswersAbout, AnswersCall, AnswersRequest, ServerAnswers};
+ghost use Rattle.wac_lsp.specs.Opened.{ServerHolds, document_in};
 ghost use Rattle.wac_lsp.specs.Replies.{AreReplies, replied_to, replies};
 ghost use Rattle.wac_lsp.specs.Steps.{Steps};
 ghost use Rattle.wac_lsp_messages.specs.declared.message.Message.TheVariants.{Notification, Request};
@@ -11,6 +11,7 @@ use crate::definitions::declared_at;
 use crate::hovering::hovered_at;
 use crate::mending::mended_at;
 use crate::refreshing::{all_published, logged, said_of};
+use crate::symbols::symbols_named;
 use crate::watching::{Touched, touched_by, watch_request, watches_files};
 use serde_json::Value;
 use std::alloc::{AllocError, Global};
@@ -205,17 +206,19 @@ impl Session {
         }
     }
 
-    /// What a request gets that asks where something is declared, what is said of it, what can stand at a place, or what
-    /// mends a range, if a package of the folders has the answer.
+    /// What a question gets about where something is declared, what is said of it, what can stand at a place, or what mends
+    /// a range, if a package of the folders has the answer.
     #[tactic(auto, using(wac_lsp::proofs::Open::about_asked))]
-    fn asked(&self, alloc: Global, call: &Call) -> Result<Option<Value>, AllocError>
-        ensures { IfOk result (λ found. IfSome found (λ value.
-            AnswersCall self.now.server.unit self.now.server.documents.items call.now (Ok value))) }
+    fn asked_about(
+        &self,
+        alloc: Global,
+        uri: &str,
+        question: &Question,
+    ) -> Result<Option<Value>, AllocError>
+        ensures { IfOk result (λ found. IfSome found (λ value. AnswersAbout self.now.server.unit
+            (document_in uri.now self.now.server.documents.items) question.now (Ok value))) }
     {
-        let Call::Document { uri, question } = call else {
-            return Ok(None);
-        };
-        let Some(document) = self.server.document(uri.as_str()) else {
+        let Some(document) = self.server.document(uri) else {
             return Ok(None);
         };
         match question {
@@ -235,7 +238,24 @@ impl Session {
         }
     }
 
-    /// What a request gets for which a package of the folders has the answer.
+    /// What a call gets that asks what the folders have, if they have the answer.
+    fn asked(&self, alloc: Global, call: &Call) -> Result<Option<Value>, AllocError>
+        ensures { IfOk result (λ found. IfSome found (λ value.
+            AnswersCall self.now.server.unit self.now.server.documents.items call.now (Ok value))) }
+    {
+        match call {
+            Call::Document { uri, question } => self.asked_about(alloc, uri.as_str(), question),
+            Call::WorkspaceSymbols { query } => Ok(Some(symbols_named(
+                alloc,
+                &self.server,
+                &self.workspace,
+                query.as_str(),
+            )?)),
+            Call::Initialize(_) | Call::Shutdown => Ok(None),
+        }
+    }
+
+    /// What a request gets for which the folders have the answer.
     fn declared(
         &self,
         alloc: Global,

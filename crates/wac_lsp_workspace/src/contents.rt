@@ -13,13 +13,13 @@ use wac_files::{FileError, FileSystem};
 use wac_graph::Package;
 use wac_package_errors::flat_text;
 
-/// How many bytes a component may have, and all documents together that declare packages: 64 MB.
+/// How many bytes a component may have, and all documents together: 64 MB.
 const MOST_BYTES: usize = 67_108_864;
 
 /// The folders within one in which components are looked for, beside the folder itself.
 static PARTS: [&str; 3] = ["", "/deps", "/packages"];
 
-/// A document that declares a package, or is to.
+/// A document, as its file has it.
 #[derive(Drop)]
 pub(crate) struct DocumentFile {
     pub(crate) path: String,
@@ -38,10 +38,13 @@ pub(crate) struct ComponentPackage {
     pub(crate) shown: Vec<ShownPackage>,
 }
 
-/// What was read of folders: their documents that declare packages, and their components.
+/// What was read of folders: their documents and their components.
 #[derive(Drop)]
 pub struct FolderContents {
-    pub(crate) documents: Vec<DocumentFile>,
+    /// The documents that declare packages, or are to.
+    pub(crate) declarations: Vec<DocumentFile>,
+    /// All other documents.
+    pub(crate) compositions: Vec<DocumentFile>,
     pub(crate) components: Vec<ComponentPackage>,
     /// The files that were passed over, with the reasons, a line each.
     pub passed_over: Vec<String>,
@@ -53,7 +56,7 @@ pub struct FolderContents {
 /// follow, below the folder itself and the folders `deps` and `packages` in it.
 ///
 /// A component is decoded once, here. A file that can't be read is passed over, as is a component of more than 64 MB, and
-/// each document with which those that declare packages would have more than 64 MB.
+/// each document with which all would have more than 64 MB.
 pub fn read_folders<F: FileSystem>(
     alloc: Global,
     files: &mut F,
@@ -63,7 +66,8 @@ pub fn read_folders<F: FileSystem>(
     ensures { F.replaced files.new ≡ F.replaced files.old }
 {
     let mut contents = FolderContents {
-        documents: Vec::new(alloc),
+        declarations: Vec::new(alloc),
+        compositions: Vec::new(alloc),
         components: Vec::new(alloc),
         passed_over: Vec::new(alloc),
         seen: BTreeSet::new(alloc),
@@ -75,21 +79,21 @@ pub fn read_folders<F: FileSystem>(
     Ok(contents)
 }
 
-/// The text of bytes, if it declares a package and its brackets aren't nested too deeply.
-pub(crate) fn declaration_in(alloc: Global, bytes: &[u8]) -> Result<Option<String>, AllocError> {
+/// The text of bytes, if they are one and its brackets aren't nested too deeply.
+fn text_in(alloc: Global, bytes: &[u8]) -> Result<Option<&str>, AllocError> {
     match flat_text(alloc, bytes) {
-        Ok(Reading::Text(text)) => declared_text(alloc, text),
+        Ok(Reading::Text(text)) => Ok(Some(text)),
         Ok(Reading::Rejected(_)) => Ok(None),
         Err(_) => Err(AllocError),
     }
 }
 
-/// A copy of a text, if it declares a package.
-fn declared_text(alloc: Global, text: &str) -> Result<Option<String>, AllocError> {
-    if is_declaration(text) {
-        Ok(Some(String::from_str(alloc, text)?))
-    } else {
-        Ok(None)
+/// The text of bytes, if it declares a package and its brackets aren't nested too deeply.
+pub(crate) fn declaration_in(alloc: Global, bytes: &[u8]) -> Result<Option<String>, AllocError> {
+    match text_in(alloc, bytes) {
+        Ok(Some(text)) if is_declaration(text) => Ok(Some(String::from_str(alloc, text)?)),
+        Ok(_) => Ok(None),
+        Err(_) => Err(AllocError),
     }
 }
 
@@ -183,20 +187,31 @@ impl FolderContents {
         }
     }
 
-    /// Keeps the text of a document, if it declares a package.
+    /// Keeps the text of a document, if its bytes are one.
     fn add_document(&mut self, alloc: Global, path: &str, bytes: &[u8]) -> Result<(), AllocError> {
-        let Some(text) = declaration_in(alloc, bytes)? else {
-            return Ok(());
-        };
-        let all = self.bytes.saturating_add(bytes.len());
+        match text_in(alloc, bytes) {
+            Ok(Some(text)) => self.add_text(alloc, path, text),
+            Ok(None) => Ok(()),
+            Err(_) => Err(AllocError),
+        }
+    }
+
+    /// Keeps the text of a document, unless all would have too many bytes.
+    fn add_text(&mut self, alloc: Global, path: &str, text: &str) -> Result<(), AllocError> {
+        let all = self.bytes.saturating_add(text.len());
         if MOST_BYTES < all {
             return self.too_large(alloc, path);
         }
         self.bytes = all;
-        self.documents.push(DocumentFile {
+        let kept = DocumentFile {
             path: String::from_str(alloc, path)?,
-            text,
-        })?;
+            text: String::from_str(alloc, text)?,
+        };
+        if is_declaration(text) {
+            self.declarations.push(kept)?;
+        } else {
+            self.compositions.push(kept)?;
+        }
         Ok(())
     }
 

@@ -11,6 +11,7 @@
 //! let described = workspace.described_at(alloc, text, offset)?;        // the same, and of components what is shown of them
 //! let names = workspace.names_at(alloc, text, offset)?;               // in `new a:b { `, behind `x.`, `new ` and `use `
 //! let mended = workspace.mended(alloc, path, text)?;                  // what `diagnose` says, with edits that mend it
+//! let saved = workspace.saved_documents(alloc)?;                      // the documents of the folders, as their files have them
 //! ```
 //!
 //! A document has a package if it has no target and no statement but those of types; every other one is a composition.
@@ -30,6 +31,7 @@ mod offering;
 mod packages;
 mod paths;
 mod places;
+mod saved;
 mod searching;
 mod sources;
 mod telling;
@@ -42,4 +44,5 @@ pub use hovering::Described;
 pub use kinds::is_declaration;
 pub use mending::Mended;
 pub use offering::{Offer, Offered, Offers};
+pub use saved::SavedDocument;
 pub use workspace::Workspace;

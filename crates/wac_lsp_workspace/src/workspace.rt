@@ -14,6 +14,8 @@ use wac_graph::{Package, PackageKey};
 pub struct Workspace {
     folders: Vec<String>,
     sources: Vec<Source>,
+    /// The documents that declare no package, as their files have them.
+    compositions: Vec<DocumentFile>,
     components: Vec<ComponentPackage>,
     packages: Packages,
 }
@@ -24,6 +26,7 @@ impl Drop for Workspace {
         let Workspace {
             folders: _,
             sources: _,
+            compositions: _,
             components: _,
             packages: _,
         } = self;
@@ -123,6 +126,7 @@ impl Workspace {
         Workspace {
             folders,
             sources: Vec::new(alloc),
+            compositions: Vec::new(alloc),
             components: Vec::new(alloc),
             packages: Packages::none(alloc),
         }
@@ -164,13 +168,15 @@ impl Workspace {
         contents: FolderContents,
     ) -> Result<Vec<String>, AllocError> {
         let FolderContents {
-            documents,
+            declarations,
+            compositions,
             components,
             passed_over,
             ..
         } = contents;
         let sources = std::mem::replace(&mut self.sources, Vec::new(alloc));
-        self.sources = with_open(documents, sources, alloc)?;
+        self.sources = with_open(declarations, sources, alloc)?;
+        self.compositions = compositions;
         self.components = components;
         self.renew(alloc)?;
         Ok(passed_over)
@@ -263,6 +269,16 @@ impl Workspace {
             Some(document) => declaration_fault(alloc, &self.packages, document, text),
             None => composition_fault(alloc, self.packages.known(), text),
         }
+    }
+
+    /// The documents that declare packages, or did, and those that are open.
+    pub(crate) fn sources(&self) -> &[Source] {
+        self.sources.as_slice()
+    }
+
+    /// The documents that declare no package, as their files have them.
+    pub(crate) fn compositions(&self) -> &[DocumentFile] {
+        self.compositions.as_slice()
     }
 
     /// The components of the folders.

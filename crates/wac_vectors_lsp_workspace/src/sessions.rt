@@ -29,7 +29,7 @@ const BEGINS: &str =
     "{\"id\":1,\"jsonrpc\":\"2.0\",\"method\":\"initialize\",\"params\":{\"capabilities\":{\"textDocument\":{\"codeAction\":{\"codeActionLiteralSupport\":{\"codeActionKind\":{\"valueSet\":[]}}},\"publishDiagnostics\":{\"relatedInformation\":true}},\"workspace\":{\"didChangeWatchedFiles\":{\"dynamicRegistration\":true}}},\"workspaceFolders\":[{\"name\":\"p\",\"uri\":\"file:///my%20project\"}]}}";
 
 /// A composition with `a:b` is opened, and the document of `a:b` is opened, changed, changed back and closed.
-static ROWS: [Row; 18] = [
+static ROWS: [Row; 19] = [
     (
         "{\"jsonrpc\":\"2.0\",\"method\":\"initialized\",\"params\":{}}",
         "{\"id\":\"files\",\"jsonrpc\":\"2.0\",\"method\":\"client/registerCapability\",\"params\":{\"registrations\":[{\"id\":\"files\",\"method\":\"workspace/didChangeWatchedFiles\",\"registerOptions\":{\"watchers\":[{\"globPattern\":\"**/*.{wac,wasm}\"}]}}]}}\n",
@@ -66,6 +66,11 @@ static ROWS: [Row; 18] = [
     (
         "{\"id\":5,\"jsonrpc\":\"2.0\",\"method\":\"textDocument/completion\",\"params\":{\"position\":{\"character\":14,\"line\":1},\"textDocument\":{\"uri\":\"file:///my%20project/app.wac\"}}}",
         "{\"id\":5,\"jsonrpc\":\"2.0\",\"result\":{\"isIncomplete\":false,\"items\":[{\"detail\":\"a:b\",\"kind\":9,\"label\":\"a:b\",\"textEdit\":{\"newText\":\"a:b\",\"range\":{\"end\":{\"character\":14,\"line\":1},\"start\":{\"character\":12,\"line\":1}}}},{\"detail\":\"a:c\",\"kind\":9,\"label\":\"a:c\",\"textEdit\":{\"newText\":\"a:c\",\"range\":{\"end\":{\"character\":14,\"line\":1},\"start\":{\"character\":12,\"line\":1}}}}]}}\n",
+    ),
+    // What open documents declare, the one that changed last at the end, and behind it what the others of the folder do.
+    (
+        "{\"id\":11,\"jsonrpc\":\"2.0\",\"method\":\"workspace/symbol\",\"params\":{\"query\":\"\"}}",
+        "{\"id\":11,\"jsonrpc\":\"2.0\",\"result\":[{\"kind\":2,\"location\":{\"range\":{\"end\":{\"character\":11,\"line\":1},\"start\":{\"character\":0,\"line\":1}},\"uri\":\"file:///my%20project/%62.wac\"},\"name\":\"w\"},{\"kind\":13,\"location\":{\"range\":{\"end\":{\"character\":20,\"line\":1},\"start\":{\"character\":0,\"line\":1}},\"uri\":\"file:///my%20project/app.wac\"},\"name\":\"x\"},{\"kind\":11,\"location\":{\"range\":{\"end\":{\"character\":28,\"line\":1},\"start\":{\"character\":0,\"line\":1}},\"uri\":\"file:///my%20project/c.wac\"},\"name\":\"i\"},{\"kind\":26,\"location\":{\"range\":{\"end\":{\"character\":26,\"line\":1},\"start\":{\"character\":14,\"line\":1}},\"uri\":\"file:///my%20project/c.wac\"},\"name\":\"t\"}]}\n",
     ),
     // Its file stands for itself again.
     (
