@@ -13,7 +13,7 @@ use Rattle.wac_lsp_messages.specs.declared.question.Question.TheVariants as ques
 use Rattle.wac_lsp_messages.specs.declared.refusal.Code.{Code}
 use Rattle.wac_lsp_messages.specs.declared.refusal.Code.TheVariants.{InvalidParams, InvalidRequest, NotInitialized, RequestFailed}
 use Rattle.wac_lsp_messages.specs.declared.refusal.Refusal.{Refusal}
-use Rattle.wac_lsp.specs.Formatting.{IsFormatting}
+use Rattle.wac_lsp.specs.Formatting.{IsFormatting, IsPartFormatting}
 use Rattle.wac_lsp.specs.Opened.{document_in, is_lost}
 use Rattle.wac_lsp.specs.declared.documents.Document.{Document}
 use Rattle.wac_lsp.specs.declared.server.Phase.{Phase}
@@ -34,7 +34,8 @@ IsRefused code answer = IsErrAnd answer (λ why. why.code ≡ code)
 -- a name that can't be given.
 abbrev pub AnswersQuestion : ColumnUnit → List ℕ → Question → Answer → Type 0
 AnswersQuestion unit text (questions.Formatting given) answer = IfOk answer (IsFormatting unit given text)
-AnswersQuestion unit text (questions.RangeFormatting range given) answer = ⊤
+AnswersQuestion unit text (questions.RangeFormatting range given) answer =
+    IfOk answer (IsPartFormatting unit given text)
 AnswersQuestion unit text (questions.Rename place new) answer = ⊤
 AnswersQuestion unit text _ answer = IsOk answer
 

@@ -85,7 +85,7 @@ fn differences(
 }
 
 /// Whether two texts are the same.
-fn is_text(first: &str, second: &str) -> bool
+pub(crate) fn is_text(first: &str, second: &str) -> bool
     ensures { result ≡ true → first.now ≡ second.now }
 {
     first == second

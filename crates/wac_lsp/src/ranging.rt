@@ -1,10 +1,12 @@
 //! The edits that lay out a part of a document.
-use crate::formatting::{NO_EDITS, edits_value, layout_of};
+ghost use Rattle.std.specs.Prelude.{◌≡◌, true, IfOk, IfSome};
+ghost use Rattle.wac_lsp.specs.Formatting.{IsPartFormatting, IsTidyOf, LaysOutPart, MakesTextOf};
+
+use crate::formatting::{NO_EDITS, edits_value, is_text, layout_of};
 use crate::pieces::pieces_of;
 use crate::places::{Part, View};
 use crate::questions::Answered;
 use crate::statements::{Statement, statements};
-use serde_json::Value;
 use std::alloc::{AllocError, Global};
 use wac_comments::{Options, TidyError, tidy};
 use wac_lsp_messages::{Change, FormattingOptions, Range};
@@ -14,8 +16,8 @@ use wac_positions::{ColumnUnit, Lines};
 /// A text, and its tidy form.
 #[derive(Clone, Copy)]
 struct Pair<'t> {
-    old: &'t str,
-    new: &'t str,
+    text: &'t str,
+    after: &'t str,
 }
 
 /// Whether a statement has a place in a part of its text.
@@ -55,8 +57,8 @@ fn changes_of(
     part: Part,
 ) -> Result<Vec<Change>, AllocError> {
     let mut changes = Vec::new(alloc);
-    let before = statements_of(alloc, pair.old)?;
-    let after = statements_of(alloc, pair.new)?;
+    let before = statements_of(alloc, pair.text)?;
+    let after = statements_of(alloc, pair.after)?;
     if before.len() != after.len() {
         return Ok(changes);
     }
@@ -66,8 +68,8 @@ fn changes_of(
         .rev()
         .zip(after.as_slice().iter().rev());
     for (from, to) in both {
-        let old = pair.old.get(from.start..from.end).unwrap_or("");
-        let new = pair.new.get(to.start..to.end).unwrap_or("");
+        let old = pair.text.get(from.start..from.end).unwrap_or("");
+        let new = pair.after.get(to.start..to.end).unwrap_or("");
         if is_in(from, part) && old != new {
             changes.push(change_of(alloc, view, from, new)?)?;
         }
@@ -82,11 +84,11 @@ fn changes_in(
     range: Range,
     unit: ColumnUnit,
 ) -> Result<Vec<Change>, AllocError> {
-    let lines = Lines::new(alloc, pair.old)?;
-    let len = pair.old.len();
+    let lines = Lines::new(alloc, pair.text)?;
+    let len = pair.text.len();
     let start = offset_at(&lines, len, range.start, unit).unwrap_or(0);
     let end = offset_at(&lines, len, range.end, unit).unwrap_or(0);
-    let view = View::new(alloc, pair.old, unit)?;
+    let view = View::new(alloc, pair.text, unit)?;
     changes_of(alloc, &view, pair, Part { start, end })
 }
 
@@ -96,9 +98,11 @@ fn is_tidied(
     text: &str,
     options: Options,
     expected: &str,
-) -> Result<bool, AllocError> {
+) -> Result<bool, AllocError>
+    ensures { IfOk result (λ yes. yes ≡ true → IsTidyOf options text.now expected.now) }
+{
     match tidy(alloc, text, options) {
-        Ok(after) => Ok(after.as_str() == expected),
+        Ok(after) => Ok(is_text(after.as_str(), expected)),
         Err(TidyError::Memory(_)) => Err(AllocError),
         Err(_) => Ok(false),
     }
@@ -111,37 +115,94 @@ fn leave_tidy(
     changes: &[Change],
     options: Options,
     unit: ColumnUnit,
-) -> Result<bool, AllocError> {
-    match changed(alloc, pair.old, changes, unit) {
-        Ok(made) => is_tidied(alloc, made.as_str(), options, pair.new),
+) -> Result<bool, AllocError>
+    ensures { IfOk result (λ yes. yes ≡ true
+        → MakesTextOf unit options pair.entry.text.now changes.now pair.entry.after.now) }
+{
+    match changed(alloc, pair.text, changes, unit) {
+        Ok(made) => is_tidied(alloc, made.as_str(), options, pair.after),
         Err(ChangeError::NoPlace) => Ok(false),
         Err(ChangeError::Memory) => Err(AllocError),
     }
 }
 
-/// The edits that lay out the statements in a range of a text: none where they are tidy, or the text is no document. It
-/// is tested that the text after them has the same tidy form; no text is known for which it hasn't.
+/// Changes, if they leave the tidy form of a text: that is tested.
+fn tested(
+    alloc: Global,
+    pair: Pair<'_>,
+    changes: Vec<Change>,
+    options: Options,
+    unit: ColumnUnit,
+) -> Result<Option<Vec<Change>>, AllocError>
+    ensures { IfOk result (λ found. IfSome found (λ edits.
+        MakesTextOf unit options pair.entry.text.now edits.items pair.entry.after.now)) }
+{
+    if leave_tidy(alloc, pair, changes.as_slice(), options, unit)? {
+        Ok(Some(changes))
+    } else {
+        Ok(None)
+    }
+}
+
+/// The changes in a range of a text that leave its tidy form, or `None` where they failed the test. No texts are known for
+/// which they do.
+fn changes_that_leave(
+    alloc: Global,
+    pair: Pair<'_>,
+    range: Range,
+    options: Options,
+    unit: ColumnUnit,
+) -> Result<Option<Vec<Change>>, AllocError>
+    ensures { IfOk result (λ found. IfSome found (λ edits.
+        MakesTextOf unit options pair.entry.text.now edits.items pair.entry.after.now)) }
+{
+    let changes = changes_in(alloc, pair, range, unit)?;
+    tested(alloc, pair, changes, options, unit)
+}
+
+/// The changes that lay out the statements in a range of a text, none where it is no document, or `None` where a test
+/// failed.
+#[tactic(auto, using(crate::proofs::Laid::part_laid_out, crate::proofs::Laid::part_is_left))]
+fn changes_in_part(
+    alloc: Global,
+    text: &str,
+    range: Range,
+    options: Options,
+    unit: ColumnUnit,
+) -> Result<Option<Vec<Change>>, AllocError>
+    ensures { IfOk result (λ found. IfSome found (λ edits. LaysOutPart unit options text.now edits.items)) }
+{
+    match tidy(alloc, text, options) {
+        Ok(after) => {
+            let pair = Pair {
+                text,
+                after: after.as_str(),
+            };
+            match changes_that_leave(alloc, pair, range, options, unit) {
+                Ok(Some(changes)) => Ok(Some(changes)),
+                Ok(None) => Ok(None),
+                Err(_) => Err(AllocError),
+            }
+        }
+        Err(TidyError::Parse(_)) => Ok(Some(Vec::new(alloc))),
+        Err(TidyError::NestedTooDeep { .. }) => Ok(Some(Vec::new(alloc))),
+        Err(TidyError::NotKept) => Ok(None),
+        Err(TidyError::Memory(_)) => Err(AllocError),
+    }
+}
+
+/// The edits that lay out the statements in a range of a text: none where they are tidy, or the text is no document.
 pub(crate) fn formatted_range(
     alloc: Global,
     text: &str,
     range: Range,
     given: FormattingOptions,
     unit: ColumnUnit,
-) -> Result<Answered, AllocError> {
-    let options = layout_of(given, text);
-    let after = match tidy(alloc, text, options) {
-        Ok(after) => after,
-        Err(TidyError::Memory(_)) => return Err(AllocError),
-        Err(_) => return Ok(Ok(Value::Array(Vec::new(alloc)))),
-    };
-    let pair = Pair {
-        old: text,
-        new: after.as_str(),
-    };
-    let changes = changes_in(alloc, pair, range, unit)?;
-    if leave_tidy(alloc, pair, changes.as_slice(), options, unit)? {
-        Ok(Ok(edits_value(alloc, changes.as_slice())?))
-    } else {
-        Ok(Err(NO_EDITS))
+) -> Result<Answered, AllocError>
+    ensures { IfOk result (λ answered. IfOk answered (λ value. IsPartFormatting unit given text.now value)) }
+{
+    match changes_in_part(alloc, text, range, layout_of(given, text), unit)? {
+        Some(changes) => Ok(Ok(edits_value(alloc, changes.as_slice())?)),
+        None => Ok(Err(NO_EDITS)),
     }
 }
