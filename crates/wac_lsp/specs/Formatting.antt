@@ -15,7 +15,7 @@ use Rattle.wac_lsp_messages.specs.declared.question.FormattingOptions.{Formattin
 use Rattle.wac_lsp_texts.specs.Changed.{Changes}
 use Rattle.wac_lsp.specs.Edits.{edits_data}
 
--- the last text is the tidy form of the one before it, as `tidy` promises it
+-- `after` is the tidy form of the text, as `tidy` promises it
 pub record IsTidyOf (options : Options) (text after : List ℕ) : Type 0 where
   pub kept : Kept text after
   pub tree : SameTree text after

@@ -15,7 +15,7 @@ pub(crate) fn printed(rt: &impl Abort, alloc: Global, source: &str, space: Optio
 }
 
 /// Texts, and what each is formatted to.
-pub(crate) const FORMATTED: [(&str, &str); 13] = [
+pub(crate) static FORMATTED: [(&str, &str); 13] = [
     ("package a:b;", "package a:b;\n\n"),
     (
         "package a:b targets c:d/e;",
@@ -67,7 +67,7 @@ pub(crate) const FORMATTED: [(&str, &str); 13] = [
 /// A text of one depth, and what it is formatted to with these spaces.
 const ARGUMENTS: &str = "package a:b; let x = new c:d { y };";
 
-const SPACED: [(&str, &str); 2] = [
+static SPACED: [(&str, &str); 2] = [
     ("\t", "package a:b;\n\nlet x = new c:d {\n\ty,\n};\n"),
     ("", "package a:b;\n\nlet x = new c:d {\ny,\n};\n"),
 ];
@@ -88,13 +88,13 @@ fn nested(alloc: Global, depth: usize) -> Result<String, Fail> {
 
 #[test]
 fn texts_are_formatted(rt: HostRuntime) -> Result<(), Fail> {
-    for (source, text) in FORMATTED {
+    for (source, text) in &FORMATTED {
         let found = printed(&rt, rt.alloc(), source, None);
-        assert!(rt; found.as_str() == text, "{found} of {source}");
+        assert!(rt; found.as_str() == *text, "{found} of {source}");
     }
-    for (space, text) in SPACED {
+    for (space, text) in &SPACED {
         let found = printed(&rt, rt.alloc(), ARGUMENTS, Some(space));
-        assert!(rt; found.as_str() == text, "{found} of {space}");
+        assert!(rt; found.as_str() == *text, "{found} of {space}");
     }
     match format(rt.alloc(), "package a:b", None) {
         Ok(_) => panic!(rt; "formatted"),

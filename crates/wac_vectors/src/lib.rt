@@ -1,7 +1,10 @@
 //! Tests of `wac_parser` and `wac_examples`: texts that are documents, rejected, cut or long, their layout, writers and
-//! memory that fail, and mentions of packages; what the examples return for the texts that the documents show.
+//! memory that fail, and mentions of packages; what the examples return for the texts that the documents show; what is in
+//! trees; and documents with comments, and what they are tidied to.
 #![tactic(auto)]
 
+#[cfg(test)]
+mod comments;
 #[cfg(test)]
 mod cuts;
 #[cfg(test)]
@@ -18,5 +21,7 @@ mod refusals;
 mod rows;
 #[cfg(test)]
 mod sizes;
+#[cfg(test)]
+mod trees;
 #[cfg(test)]
 mod writers;

@@ -9,7 +9,7 @@ use wac_parser::{Document, Error, Page, packages};
 type Row = (&'static str, &'static str);
 
 /// Each place where a package can be mentioned, and places that don't count.
-const ROWS: [Row; 13] = [
+static ROWS: [Row; 13] = [
     (
         "package a:b targets c:d/e@1.0.0; import x: f:g/h; let y = new c:d@1.0.0 { ... };",
         "20+3 c:d@1.0.0\n43+3 f:g\n",
@@ -79,9 +79,9 @@ fn listed(alloc: Global, text: &str) -> Result<String, Error> {
 
 #[test]
 fn documents_mention_packages(rt: HostRuntime) -> Result<(), Fail> {
-    for (text, wanted) in ROWS {
+    for (text, wanted) in &ROWS {
         match listed(rt.alloc(), text) {
-            Ok(lines) => assert!(rt; lines.as_str() == wanted, "{lines} of {text}"),
+            Ok(lines) => assert!(rt; lines.as_str() == *wanted, "{lines} of {text}"),
             Err(_) => panic!(rt; "rejected: {text}"),
         }
     }

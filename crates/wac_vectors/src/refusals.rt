@@ -10,7 +10,7 @@ use wac_parser::Error;
 pub(crate) type Row = (&'static str, &'static str, usize, usize);
 
 /// Texts that are rejected at a token.
-pub(crate) const AT_TOKENS: [Row; 18] = [
+pub(crate) static AT_TOKENS: [Row; 18] = [
     (
         "package a:b; let x y;",
         "expected `=`, found identifier",
@@ -122,7 +122,7 @@ pub(crate) const AT_TOKENS: [Row; 18] = [
 ];
 
 /// Texts that are rejected at their end.
-const AT_THE_END: [Row; 7] = [
+static AT_THE_END: [Row; 7] = [
     ("", "expected `package` keyword, found end of input", 0, 1),
     (
         "package a:b; let x = y",
@@ -163,7 +163,7 @@ const AT_THE_END: [Row; 7] = [
 ];
 
 /// Bodies without an item.
-pub(crate) const EMPTY: [Row; 4] = [
+pub(crate) static EMPTY: [Row; 4] = [
     (
         "package a:b; variant v {}",
         "variant must contain at least one case",
@@ -191,7 +191,7 @@ pub(crate) const EMPTY: [Row; 4] = [
 ];
 
 /// Invalid versions.
-pub(crate) const VERSIONS: [Row; 7] = [
+pub(crate) static VERSIONS: [Row; 7] = [
     (
         "package a:b@01.0.0;",
         "`01.0.0` is not a valid semantic version",
@@ -237,7 +237,7 @@ pub(crate) const VERSIONS: [Row; 7] = [
 ];
 
 /// Texts with a character or a quote that occurs in no document.
-const FAULTS: [Row; 4] = [
+static FAULTS: [Row; 4] = [
     (
         "package a:b; // \u{c}",
         "disallowed control code '\\u{c}'",
@@ -297,11 +297,16 @@ fn are_refused(rt: &impl Abort, alloc: Global, rows: &[Row]) -> Result<(), Fail>
 
 #[test]
 fn refusals_are_told(rt: HostRuntime) -> Result<(), Fail> {
-    are_refused(&rt, rt.alloc(), &AT_TOKENS)?;
-    are_refused(&rt, rt.alloc(), &AT_THE_END)?;
-    are_refused(&rt, rt.alloc(), &EMPTY)?;
-    are_refused(&rt, rt.alloc(), &VERSIONS)?;
-    are_refused(&rt, rt.alloc(), &FAULTS)
+    for rows in [
+        AT_TOKENS.as_slice(),
+        AT_THE_END.as_slice(),
+        EMPTY.as_slice(),
+        VERSIONS.as_slice(),
+        FAULTS.as_slice(),
+    ] {
+        are_refused(&rt, rt.alloc(), rows)?;
+    }
+    Ok(())
 }
 
 #[test]

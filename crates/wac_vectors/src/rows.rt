@@ -31,7 +31,7 @@ pub(crate) const DOCUMENTED_PRINTED: &str =
     /// Doc comment #10!\nexport x as \"foo\";\n";
 
 /// Texts that have a tree.
-pub(crate) const DOCUMENTS: [&str; 27] = [
+pub(crate) static DOCUMENTS: [&str; 27] = [
     "package a:b;",
     "package a:b targets c:d/e;",
     DOCUMENTED,
@@ -62,7 +62,7 @@ pub(crate) const DOCUMENTS: [&str; 27] = [
 ];
 
 /// Texts that have none.
-pub(crate) const OTHERS: [&str; 25] = [
+pub(crate) static OTHERS: [&str; 25] = [
     "",
     "package a:b; x // \u{202a}",
     "package a:b; record r { x:u32 }",

@@ -44,17 +44,17 @@ fn long_texts_are_formatted(rt: HostRuntime) -> Result<(), Fail> {
 }
 
 /// Documents, and how what each is shown as ends: with the number of its statements.
-const SHOWN: [(&str, &str); 2] = [
+static SHOWN: [(&str, &str); 2] = [
     ("/// a\n/// b\npackage a:b; let x = y;", ", statements: 1 }"),
     ("package a:b; let x = y; export x;", ", statements: 2 }"),
 ];
 
 #[test]
 fn documents_show_how_many_statements_they_have(rt: HostRuntime) -> Result<(), Fail> {
-    for (source, end) in SHOWN {
+    for (source, end) in &SHOWN {
         let text = shown(rt.alloc(), source)?;
         assert!(rt; text.as_str().starts_with("Document { docs: ["), "{text}");
-        assert!(rt; text.as_str().ends_with(end), "{text}");
+        assert!(rt; text.as_str().ends_with(*end), "{text}");
     }
     Ok(())
 }

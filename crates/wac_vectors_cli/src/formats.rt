@@ -1,10 +1,8 @@
-// `fmt` over files in memory.
+// `fmt` over files in memory, and while a call fails.
 use crate::runs::{expect, format, format_text, options};
 use std::alloc::Global;
 use std::test::Fail;
-use wac_cli::{FormatOptions, LineEnds};
 use wac_cli_console::Action;
-use wac_comments::Indent;
 use wac_files::MemoryFiles;
 
 const UNTIDY: &str = "package  a:b; // one\n\nlet x=y;\n";
@@ -58,51 +56,6 @@ fn files_are_written(rt: HostRuntime) -> Result<(), Fail> {
         &["untidy.wac"],
     );
     expect(&rt, &run, 0, "", "1 file, 0 changed, 0 with errors\n")
-}
-
-#[test]
-fn files_are_tested(rt: HostRuntime) -> Result<(), Fail> {
-    let mut files = tree(rt.alloc())?;
-    let run = format(rt.alloc(), &mut files, options(Action::Check), &["."]);
-    let said = errors(rt.alloc(), "3 files, 1 not tidy, 1 with errors\n")?;
-    expect(&rt, &run, 1, "untidy.wac\n", said.as_str())?;
-    assert!(rt; holds(&files, "untidy.wac", UNTIDY));
-    let run = format(
-        rt.alloc(),
-        &mut files,
-        options(Action::Check),
-        &["untidy.wac"],
-    );
-    expect(
-        &rt,
-        &run,
-        1,
-        "untidy.wac\n",
-        "1 file, 1 not tidy, 0 with errors\n",
-    )?;
-    let run = format(
-        rt.alloc(),
-        &mut files,
-        options(Action::Check),
-        &["tidy.wac"],
-    );
-    expect(&rt, &run, 0, "", "1 file, 0 not tidy, 0 with errors\n")
-}
-
-#[test]
-fn differences_are_shown(rt: HostRuntime) -> Result<(), Fail> {
-    let mut files = tree(rt.alloc())?;
-    let run = format(
-        rt.alloc(),
-        &mut files,
-        options(Action::Diff),
-        &["untidy.wac"],
-    );
-    let diff =
-        "--- untidy.wac\n+++ untidy.wac\n@@ -1,3 +1,3 @@\n-package  a:b; // one\n+package a:b; // one\n \n-let x=y;\n+let x = y;\n";
-    expect(&rt, &run, 1, diff, "1 file, 1 not tidy, 0 with errors\n")?;
-    assert!(rt; holds(&files, "untidy.wac", UNTIDY));
-    Ok(())
 }
 
 #[test]
@@ -169,77 +122,7 @@ fn no_file_is_lost_where_a_call_fails(rt: HostRuntime) -> Result<(), Fail> {
 }
 
 #[test]
-fn layouts_are_chosen(rt: HostRuntime) -> Result<(), Fail> {
-    let source = "package a:b;\r\nlet x = {\r\ny, ...};\r\n";
-    let tab = FormatOptions {
-        action: Action::Write,
-        indent: Indent::Tab,
-        line_ends: LineEnds::Lf,
-    };
-    let run = format_text(
-        rt.alloc(),
-        "package a:b;\ninterface i {\nf: func();\n}\n",
-        tab,
-        None,
-    );
-    expect(
-        &rt,
-        &run,
-        0,
-        "package a:b;\n\ninterface i {\n\tf: func();\n}\n",
-        "",
-    )?;
-    let run = format_text(
-        rt.alloc(),
-        "package a:b;\r\nlet x=y;\r\n",
-        options(Action::Write),
-        None,
-    );
-    expect(&rt, &run, 0, "package a:b;\r\n\r\nlet x = y;\r\n", "")?;
-    let run = format_text(
-        rt.alloc(),
-        "/* a\r\nb */ package a:b;\n",
-        options(Action::Write),
-        None,
-    );
-    expect(&rt, &run, 0, "/* a\r\nb */ package a:b;\n", "")?;
-    let run = format_text(rt.alloc(), source, options(Action::Check), Some("x.wac"));
-    let said = "x.wac:3:4: error[wac::expected]: expected identifier or string, found `...`\n";
-    assert_eq!(rt; run.status, 1);
-    assert!(rt;
-        str::from_utf8(run.errors.as_slice())
-            .unwrap_or("?")
-            .starts_with("x.wac:"),
-        "{said}"
-    );
-    Ok(())
-}
-
-#[test]
 fn input_is_a_filter(rt: HostRuntime) -> Result<(), Fail> {
     let run = format_text(rt.alloc(), UNTIDY, options(Action::Write), None);
-    expect(&rt, &run, 0, TIDY, "")?;
-    let run = format_text(rt.alloc(), TIDY, options(Action::Write), None);
-    expect(&rt, &run, 0, TIDY, "")?;
-    let run = format_text(rt.alloc(), TIDY, options(Action::Check), None);
-    expect(&rt, &run, 0, "", "")?;
-    let run = format_text(rt.alloc(), UNTIDY, options(Action::Check), None);
-    expect(
-        &rt,
-        &run,
-        1,
-        "<stdin>\n",
-        "1 file, 1 not tidy, 0 with errors\n",
-    )?;
-    let run = format_text(rt.alloc(), UNTIDY, options(Action::Check), Some("a.wac"));
-    expect(
-        &rt,
-        &run,
-        1,
-        "a.wac\n",
-        "1 file, 1 not tidy, 0 with errors\n",
-    )?;
-    let run = format_text(rt.alloc(), BAD, options(Action::Write), Some("bad.wac"));
-    let said = errors(rt.alloc(), "1 file, 0 changed, 1 with errors\n")?;
-    expect(&rt, &run, 1, "", said.as_str())
+    expect(&rt, &run, 0, TIDY, "")
 }

@@ -2,8 +2,8 @@
 use std::alloc::Global;
 use std::process::Abort;
 use std::test::Fail;
-use wac_cli::{FormatOptions, LineEnds, check_paths, format_input, format_paths};
-use wac_cli_console::{Action, Console, Report};
+use wac_cli::{FormatOptions, LineEnds, format_input, format_paths};
+use wac_cli_console::{Action, Console};
 use wac_comments::Indent;
 use wac_files::MemoryFiles;
 
@@ -36,21 +36,6 @@ pub(crate) fn format(
     let status = {
         let mut console = Console::new(&mut output, &mut errors, false, false);
         format_paths(alloc, files, &mut console, options, paths).code()
-    };
-    Run {
-        status,
-        output,
-        errors,
-    }
-}
-
-/// Runs `check`.
-pub(crate) fn check(alloc: Global, files: &mut MemoryFiles, report: Report, paths: &[&str]) -> Run {
-    let mut output = Vec::new(alloc);
-    let mut errors = Vec::new(alloc);
-    let status = {
-        let mut console = Console::new(&mut output, &mut errors, false, false);
-        check_paths(alloc, files, &mut console, report, paths).code()
     };
     Run {
         status,

@@ -119,6 +119,8 @@ static RESULTS: &[Row] = &[
 
 #[test]
 fn functions(rt: HostRuntime) -> Result<(), Fail> {
-    hold(&rt, rt.alloc(), PARAMETERS)?;
-    hold(&rt, rt.alloc(), RESULTS)
+    for rows in [PARAMETERS, RESULTS] {
+        hold(&rt, rt.alloc(), rows)?;
+    }
+    Ok(())
 }

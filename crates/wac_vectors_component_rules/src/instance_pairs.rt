@@ -210,8 +210,8 @@ static BOTH_WAYS: &[Row] = &[
 
 #[test]
 fn items(rt: HostRuntime) -> Result<(), Fail> {
-    hold(&rt, rt.alloc(), EXPORTS)?;
-    hold(&rt, rt.alloc(), RESOURCES)?;
-    hold(&rt, rt.alloc(), WORLDS)?;
-    hold(&rt, rt.alloc(), BOTH_WAYS)
+    for rows in [EXPORTS, RESOURCES, WORLDS, BOTH_WAYS] {
+        hold(&rt, rt.alloc(), rows)?;
+    }
+    Ok(())
 }

@@ -268,9 +268,8 @@ static STREAMS: &[Row] = &[
 
 #[test]
 fn types_of_values(rt: HostRuntime) -> Result<(), Fail> {
-    hold(&rt, rt.alloc(), PLAIN)?;
-    hold(&rt, rt.alloc(), BUILT)?;
-    hold(&rt, rt.alloc(), RECORDS)?;
-    hold(&rt, rt.alloc(), CASES)?;
-    hold(&rt, rt.alloc(), STREAMS)
+    for rows in [PLAIN, BUILT, RECORDS, CASES, STREAMS] {
+        hold(&rt, rt.alloc(), rows)?;
+    }
+    Ok(())
 }

@@ -1,7 +1,6 @@
 //! Codes, each by a document that has this error as its first.
 
 use std::alloc::{AllocError, Global};
-use std::process::Abort;
 use std::test::Fail;
 use wac_first_error::{Verdict, first_error};
 
@@ -209,48 +208,31 @@ fn has_code(alloc: Global, row: &Row) -> Result<bool, AllocError> {
     }
 }
 
-/// The number of the first row that isn't as it should be.
-fn first_wrong(alloc: Global, rows: &[Row]) -> Result<Option<usize>, AllocError> {
-    for (number, row) in rows.iter().enumerate() {
+/// The codes of the rows whose text has another one, or none.
+fn wrong_codes(alloc: Global, rows: &[Row]) -> Result<String, AllocError> {
+    let mut wrong = String::new(alloc);
+    for row in rows {
         if !has_code(alloc, row)? {
-            return Ok(Some(number));
+            writeln!(wrong, "{}", row.0)?;
         }
     }
-    Ok(None)
+    Ok(wrong)
 }
 
 #[test]
-fn texts(rt: HostRuntime) -> Result<(), Fail> {
-    let wrong = first_wrong(rt.alloc(), &TEXTS)?;
-    assert!(rt; wrong == None, "row {wrong:?}");
-    let wrong = first_wrong(rt.alloc(), &MORE_TEXTS)?;
-    assert!(rt; wrong == None, "further row {wrong:?}");
-    Ok(())
-}
-
-#[test]
-fn types(rt: HostRuntime) -> Result<(), Fail> {
-    let wrong = first_wrong(rt.alloc(), &TYPES)?;
-    assert!(rt; wrong == None, "row {wrong:?}");
-    let wrong = first_wrong(rt.alloc(), &MORE_TYPES)?;
-    assert!(rt; wrong == None, "further row {wrong:?}");
-    Ok(())
-}
-
-#[test]
-fn worlds(rt: HostRuntime) -> Result<(), Fail> {
-    let wrong = first_wrong(rt.alloc(), &WORLDS)?;
-    assert!(rt; wrong == None, "row {wrong:?}");
-    let wrong = first_wrong(rt.alloc(), &MORE_WORLDS)?;
-    assert!(rt; wrong == None, "further row {wrong:?}");
-    Ok(())
-}
-
-#[test]
-fn compositions(rt: HostRuntime) -> Result<(), Fail> {
-    let wrong = first_wrong(rt.alloc(), &COMPOSITIONS)?;
-    assert!(rt; wrong == None, "row {wrong:?}");
-    let wrong = first_wrong(rt.alloc(), &MORE_COMPOSITIONS)?;
-    assert!(rt; wrong == None, "further row {wrong:?}");
+fn texts_have_these_codes(rt: HostRuntime) -> Result<(), Fail> {
+    for rows in [
+        TEXTS.as_slice(),
+        MORE_TEXTS.as_slice(),
+        TYPES.as_slice(),
+        MORE_TYPES.as_slice(),
+        WORLDS.as_slice(),
+        MORE_WORLDS.as_slice(),
+        COMPOSITIONS.as_slice(),
+        MORE_COMPOSITIONS.as_slice(),
+    ] {
+        let wrong = wrong_codes(rt.alloc(), rows)?;
+        assert!(rt; wrong.is_empty(), "{wrong}");
+    }
     Ok(())
 }

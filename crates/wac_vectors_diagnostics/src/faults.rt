@@ -231,11 +231,16 @@ fn are_found(rt: &impl Abort, alloc: Global, rows: &[Row]) -> Result<(), Fail> {
 
 #[test]
 fn faults_are_found(rt: HostRuntime) -> Result<(), Fail> {
-    are_found(&rt, rt.alloc(), &FEW)?;
-    are_found(&rt, rt.alloc(), &STATEMENTS)?;
-    are_found(&rt, rt.alloc(), &DIRECTIVES)?;
-    are_found(&rt, rt.alloc(), &BRACES)?;
-    are_found(&rt, rt.alloc(), &TEXTS)
+    for rows in [
+        FEW.as_slice(),
+        STATEMENTS.as_slice(),
+        DIRECTIVES.as_slice(),
+        BRACES.as_slice(),
+        TEXTS.as_slice(),
+    ] {
+        are_found(&rt, rt.alloc(), rows)?;
+    }
+    Ok(())
 }
 
 /// The fault at a place of a text as a line: empty where there is none.

@@ -144,11 +144,9 @@ static BYTES: [Row; 5] = [
 ];
 
 #[test]
-fn names_are_asked_about(rt: HostRuntime) -> Result<(), Fail> {
-    is_session(&rt, rt.alloc(), &UNITS)
-}
-
-#[test]
-fn names_are_asked_about_in_bytes(rt: HostRuntime) -> Result<(), Fail> {
-    is_session(&rt, rt.alloc(), &BYTES)
+fn names_are_asked_about_in_each_unit(rt: HostRuntime) -> Result<(), Fail> {
+    for rows in [UNITS.as_slice(), BYTES.as_slice()] {
+        is_session(&rt, rt.alloc(), rows)?;
+    }
+    Ok(())
 }

@@ -1,6 +1,6 @@
 //! Texts that are open stand before their files.
 
-use crate::worked::{empty, files_of, open, path_of, read, told, workspace_of};
+use crate::stories::{NOTHING, Step, Story, YES, difference};
 use std::test::Fail;
 
 /// What declares `a:b`, with and without the export that the composition takes.
@@ -13,93 +13,101 @@ const APP: &str = "package a:app;\nlet x = new a:b { };\nexport x.f;\n";
 
 const LACKS: &str = "wac::missing-instance-export 44+2: `x` has nothing\n";
 
-#[test]
-fn an_open_text_stands_before_its_file(rt: HostRuntime) -> Result<(), Fail> {
-    let alloc = rt.alloc();
-    let mut workspace = workspace_of(alloc, &[], &[("b.wac", WITH)])?;
-    assert!(rt; told(alloc, &workspace, "app.wac", APP)?.is_empty());
-    // The same text changes nothing.
-    assert!(rt; !open(alloc, &mut workspace, "b.wac", WITH)?);
-    assert!(rt; open(alloc, &mut workspace, "b.wac", WITHOUT)?);
-    let found = told(alloc, &workspace, "app.wac", APP)?;
-    assert!(rt; found.as_str() == LACKS, "{found}");
-    assert!(rt; open(alloc, &mut workspace, "b.wac", WITH)?);
-    assert!(rt; told(alloc, &workspace, "app.wac", APP)?.is_empty());
-    Ok(())
-}
+static STORIES: [Story; 6] = [
+    Story {
+        shows: "an open text stands before its file",
+        folders: &[],
+        files: &[("b.wac", WITH)],
+        steps: &[
+            (Step::Asks("app.wac", APP), NOTHING),
+            // The same text changes nothing.
+            (Step::Opens("b.wac", WITH), NOTHING),
+            (Step::Opens("b.wac", WITHOUT), YES),
+            (Step::Asks("app.wac", APP), LACKS),
+            (Step::Opens("b.wac", WITH), YES),
+            (Step::Asks("app.wac", APP), NOTHING),
+        ],
+    },
+    Story {
+        shows: "a closed text gives way to its file",
+        folders: &[],
+        files: &[("b.wac", WITH)],
+        steps: &[
+            (Step::Opens("b.wac", WITHOUT), YES),
+            (Step::Closes("b.wac"), YES),
+            (Step::Asks("app.wac", APP), NOTHING),
+            (Step::Closes("b.wac"), NOTHING),
+        ],
+    },
+    Story {
+        shows: "a composition that is open makes nothing anew",
+        folders: &[],
+        files: &[("b.wac", WITH)],
+        steps: &[
+            (Step::Opens("app.wac", APP), NOTHING),
+            (
+                Step::Opens("app.wac", "package a:app;\nlet x = new a:b { };"),
+                NOTHING,
+            ),
+            // It becomes a declaration, and a composition again.
+            (Step::Opens("app.wac", "package a:app;\n"), YES),
+            (Step::Opens("app.wac", APP), YES),
+        ],
+    },
+    Story {
+        shows: "a text without a file declares a package",
+        folders: &[],
+        files: &[],
+        steps: &[
+            (Step::Opens("new/b.wac", WITHOUT), YES),
+            (Step::Asks("app.wac", APP), LACKS),
+            // Files that are read leave it as it is.
+            (Step::Reads(&[]), NOTHING),
+            (Step::Asks("app.wac", APP), LACKS),
+            (Step::Closes("new/b.wac"), YES),
+            (Step::Asks("app.wac", APP), NOTHING),
+        ],
+    },
+    Story {
+        shows: "files are read again",
+        folders: &[],
+        files: &[("b.wac", WITH)],
+        steps: &[
+            (Step::Asks("app.wac", APP), NOTHING),
+            (Step::Reads(&[("b.wac", WITHOUT)]), NOTHING),
+            (Step::Asks("app.wac", APP), LACKS),
+        ],
+    },
+    Story {
+        shows: "texts in no folder are passed over",
+        folders: &[],
+        files: &[("b.wac", WITH)],
+        steps: &[
+            (Step::Opens("/b.wac", WITHOUT), NOTHING),
+            (Step::Asks("/b.wac", APP), NOTHING),
+            (Step::AsksOf("/b.wac"), NOTHING),
+            (Step::Opens("/project2/b.wac", WITHOUT), NOTHING),
+            (Step::Asks("/project2/b.wac", APP), NOTHING),
+            (Step::AsksOf("/project2/b.wac"), NOTHING),
+            (Step::Opens("/projec", WITHOUT), NOTHING),
+            (Step::Asks("/projec", APP), NOTHING),
+            (Step::AsksOf("/projec"), NOTHING),
+            (Step::Opens("/project", WITHOUT), NOTHING),
+            (Step::Asks("/project", APP), NOTHING),
+            (Step::AsksOf("/project"), NOTHING),
+            (Step::Opens("", WITHOUT), NOTHING),
+            (Step::Asks("", APP), NOTHING),
+            (Step::AsksOf(""), NOTHING),
+            (Step::AsksOf("b.wac"), YES),
+        ],
+    },
+];
 
 #[test]
-fn a_closed_text_gives_way_to_its_file(rt: HostRuntime) -> Result<(), Fail> {
-    let alloc = rt.alloc();
-    let mut workspace = workspace_of(alloc, &[], &[("b.wac", WITH)])?;
-    assert!(rt; open(alloc, &mut workspace, "b.wac", WITHOUT)?);
-    let path = path_of(alloc, "b.wac")?;
-    assert!(rt; workspace.close(alloc, path.as_str())?);
-    assert!(rt; told(alloc, &workspace, "app.wac", APP)?.is_empty());
-    assert!(rt; !workspace.close(alloc, path.as_str())?);
-    Ok(())
-}
-
-#[test]
-fn a_composition_that_is_open_makes_nothing_anew(rt: HostRuntime) -> Result<(), Fail> {
-    let alloc = rt.alloc();
-    let mut workspace = workspace_of(alloc, &[], &[("b.wac", WITH)])?;
-    assert!(rt; !open(alloc, &mut workspace, "app.wac", APP)?);
-    assert!(rt;
-        !open(
-            alloc,
-            &mut workspace,
-            "app.wac",
-            "package a:app;\nlet x = new a:b { };"
-        )?
-    );
-    // It becomes a declaration, and a composition again.
-    assert!(rt; open(alloc, &mut workspace, "app.wac", "package a:app;\n")?);
-    assert!(rt; open(alloc, &mut workspace, "app.wac", APP)?);
-    Ok(())
-}
-
-#[test]
-fn a_text_without_a_file_declares_a_package(rt: HostRuntime) -> Result<(), Fail> {
-    let alloc = rt.alloc();
-    let mut workspace = empty(alloc)?;
-    assert!(rt; open(alloc, &mut workspace, "new/b.wac", WITHOUT)?);
-    let found = told(alloc, &workspace, "app.wac", APP)?;
-    assert!(rt; found.as_str() == LACKS, "{found}");
-    // Files that are read leave it as it is.
-    let mut files = files_of(alloc, &[], &[])?;
-    read(alloc, &mut workspace, &mut files)?;
-    let found = told(alloc, &workspace, "app.wac", APP)?;
-    assert!(rt; found.as_str() == LACKS, "{found}");
-    let path = path_of(alloc, "new/b.wac")?;
-    assert!(rt; workspace.close(alloc, path.as_str())?);
-    assert!(rt; told(alloc, &workspace, "app.wac", APP)?.is_empty());
-    Ok(())
-}
-
-#[test]
-fn files_are_read_again(rt: HostRuntime) -> Result<(), Fail> {
-    let alloc = rt.alloc();
-    let mut workspace = workspace_of(alloc, &[], &[("b.wac", WITH)])?;
-    let mut files = files_of(alloc, &[], &[("c.wac", WITHOUT)])?;
-    read(alloc, &mut workspace, &mut files)?;
-    let found = told(alloc, &workspace, "app.wac", APP)?;
-    assert!(rt; found.as_str() == LACKS, "{found}");
-    Ok(())
-}
-
-#[test]
-fn texts_in_no_folder_are_passed_over(rt: HostRuntime) -> Result<(), Fail> {
-    let alloc = rt.alloc();
-    let mut workspace = workspace_of(alloc, &[], &[("b.wac", WITH)])?;
-    for path in ["/b.wac", "/project2/b.wac", "/projec", "/project", ""] {
-        assert!(rt;
-            !workspace.open(alloc, path, "file:///b.wac", WITHOUT)?,
-            "{path}"
-        );
-        assert!(rt; workspace.diagnose(alloc, path, APP)?.is_empty(), "{path}");
-        assert!(rt; !workspace.resolves(path), "{path}");
+fn open_texts_stand_before_their_files(rt: HostRuntime) -> Result<(), Fail> {
+    for story in &STORIES {
+        let found = difference(rt.alloc(), story)?;
+        assert!(rt; found.is_empty(), "{found}");
     }
-    assert!(rt; workspace.resolves("/project/b.wac"));
     Ok(())
 }

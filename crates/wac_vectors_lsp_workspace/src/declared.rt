@@ -1,54 +1,9 @@
 //! Where what a text names of packages is declared, and what is said of it. The packages are those of examples/compose, and
 //! one of a component.
 
+use crate::questions::{Asked, difference};
 use crate::shop::PACKAGES;
-use crate::worked::{FOLDER, empty, files_of, path_of, read, workspace_of};
-use std::alloc::{AllocError, Global};
-use std::process::Abort;
 use std::test::Fail;
-use wac_lsp_names::declared_hover;
-use wac_lsp_workspace::{Declaration, Described, Workspace};
-
-/// A text with a mark, and the mark's offset.
-#[derive(Drop)]
-struct Marked {
-    text: String,
-    offset: usize,
-}
-
-impl Marked {
-    fn of(alloc: Global, marked: &str) -> Result<Marked, AllocError> {
-        let (before, after) = marked.split_once('|').unwrap_or((marked, ""));
-        let mut text = String::from_str(alloc, before)?;
-        text.push_str(after)?;
-        let offset = before.len();
-        Ok(Marked { text, offset })
-    }
-}
-
-/// A declaration as a line: its file below the folder, and the rest of its line, with a mark behind the name.
-fn declaration_line(alloc: Global, declaration: &Declaration<'_>) -> Result<String, AllocError> {
-    let path = declaration.path;
-    let name = path.strip_prefix(FOLDER).unwrap_or(path);
-    let rest = declaration
-        .text
-        .get(declaration.span.offset()..)
-        .unwrap_or("");
-    let declared = rest.get(..declaration.span.len()).unwrap_or("");
-    let behind = rest.get(declaration.span.len()..).unwrap_or("");
-    let (line, _) = behind.split_once('\n').unwrap_or((behind, ""));
-    format!(in alloc; "{name} {declared}|{line}")
-}
-
-/// Where what is named at the mark of a text is declared, as a line.
-fn line_of(alloc: Global, workspace: &Workspace, marked: &str) -> Result<String, AllocError> {
-    let marked = Marked::of(alloc, marked)?;
-    match workspace.declaration_at(alloc, marked.text.as_str(), marked.offset) {
-        Ok(Some(declaration)) => declaration_line(alloc, &declaration),
-        Ok(None) => String::from_str(alloc, ""),
-        Err(error) => Err(error),
-    }
-}
 
 /// Texts with a mark, and where what is named there is declared.
 static ROWS: [(&str, &str); 25] = [
@@ -172,44 +127,6 @@ static INLINE_ROWS: [(&str, &str); 4] = [
     ),
 ];
 
-#[test]
-fn names_of_packages_are_declared_in_documents(rt: HostRuntime) -> Result<(), Fail> {
-    let workspace = workspace_of(rt.alloc(), &["packages"], &PACKAGES)?;
-    for (marked, expected) in &ROWS {
-        let found = line_of(rt.alloc(), &workspace, marked)?;
-        assert!(rt; found.as_str() == *expected, "{marked}: {found}");
-    }
-    let workspace = workspace_of(rt.alloc(), &[], &INLINE)?;
-    for (marked, expected) in &INLINE_ROWS {
-        let found = line_of(rt.alloc(), &workspace, marked)?;
-        assert!(rt; found.as_str() == *expected, "{marked}: {found}");
-    }
-    Ok(())
-}
-
-/// What is said of what is described, as a line.
-fn said_of(alloc: Global, text: &str, found: &Described<'_>) -> Result<String, AllocError> {
-    let Some(hover) = declared_hover(alloc, found.text, found.span, found.at)? else {
-        return String::from_str(alloc, "nothing");
-    };
-    let end = hover.at.offset().saturating_add(hover.at.len());
-    let name = text.get(hover.at.offset()..end).unwrap_or("");
-    let declaration = hover.declaration.as_str();
-    let docs = hover.docs.as_str();
-    format!(in alloc; "{name}: {declaration} / {docs}")
-}
-
-/// What is said at the mark of a text: the part of the text that it is said of, the declaration and its docs.
-fn said(alloc: Global, workspace: &Workspace, marked: &str) -> Result<String, AllocError> {
-    let marked = Marked::of(alloc, marked)?;
-    let text = marked.text.as_str();
-    match workspace.described_at(alloc, text, marked.offset) {
-        Ok(Some(found)) => said_of(alloc, text, &found),
-        Ok(None) => String::from_str(alloc, ""),
-        Err(error) => Err(error),
-    }
-}
-
 /// Texts with a mark, and what is said there.
 static SAID: [(&str, &str); 10] = [
     (
@@ -263,35 +180,14 @@ static INLINE_SAID: [(&str, &str); 2] = [
     ),
 ];
 
-#[test]
-fn names_of_packages_are_described(rt: HostRuntime) -> Result<(), Fail> {
-    let workspace = workspace_of(rt.alloc(), &["packages"], &PACKAGES)?;
-    for (marked, expected) in &SAID {
-        let found = said(rt.alloc(), &workspace, marked)?;
-        assert!(rt; found.as_str() == *expected, "{marked}: {found}");
-    }
-    let workspace = workspace_of(rt.alloc(), &[], &INLINE)?;
-    for (marked, expected) in &INLINE_SAID {
-        let found = said(rt.alloc(), &workspace, marked)?;
-        assert!(rt; found.as_str() == *expected, "{marked}: {found}");
-    }
-    Ok(())
-}
-
 /// A component that imports a function `f` and exports it as `g`: the preamble, then the type, the import and the export.
-static COMPONENT: &[u8] = b"\0asm\x0d\0\x01\0\
-    \x07\x05\x01\x40\0\x01\0\
-    \x0a\x06\x01\0\x01f\x01\0\
-    \x0b\x07\x01\0\x01g\x01\0\0";
-
-/// The workspace of a folder with that component of `c:d`.
-fn with_component(alloc: Global) -> Result<Workspace, AllocError> {
-    let mut files = files_of(alloc, &["deps", "deps/c"], &[])?;
-    files.file(alloc, path_of(alloc, "deps/c/d.wasm")?.as_str(), COMPONENT)?;
-    let mut workspace = empty(alloc)?;
-    read(alloc, &mut workspace, &mut files)?;
-    Ok(workspace)
-}
+static COMPONENT: [(&str, &str); 1] = [(
+    "deps/c/d.wasm",
+    "\0asm\x0d\0\x01\0\
+     \x07\x05\x01\x40\0\x01\0\
+     \x0a\x06\x01\0\x01f\x01\0\
+     \x0b\x07\x01\0\x01g\x01\0\0",
+)];
 
 /// Texts with a mark, and what is said there.
 static OF_COMPONENT: [(&str, &str); 4] = [
@@ -310,34 +206,13 @@ static OF_COMPONENT: [(&str, &str); 4] = [
     ("package a:b; let x = new c:d { f: y }; export x.|f;", ""),
 ];
 
-#[test]
-fn names_of_components_are_described(rt: HostRuntime) -> Result<(), Fail> {
-    let workspace = with_component(rt.alloc())?;
-    for (marked, expected) in &OF_COMPONENT {
-        let found = said(rt.alloc(), &workspace, marked)?;
-        assert!(rt; found.as_str() == *expected, "{marked}: {found}");
-        // It has no text.
-        let found = line_of(rt.alloc(), &workspace, marked)?;
-        assert!(rt; found.is_empty(), "{marked}: {found}");
-    }
-    Ok(())
-}
-
-/// The names at the mark of a text, each with what is shown beside it.
-fn details(alloc: Global, workspace: &Workspace, marked: &str) -> Result<String, AllocError> {
-    let marked = Marked::of(alloc, marked)?;
-    let offers = workspace.names_at(alloc, marked.text.as_str(), marked.offset)?;
-    let mut line = String::new(alloc);
-    for offer in &offers.all {
-        if !line.is_empty() {
-            line.push_str(" / ")?;
-        }
-        line.push_str(offer.written.as_str())?;
-        line.push_str(" = ")?;
-        line.push_str(offer.detail.as_str())?;
-    }
-    Ok(line)
-}
+/// A component has no text in which its names are declared.
+static WITHOUT_TEXT: [(&str, &str); 4] = [
+    ("package a:b; let x = new c:d { f: y }; export x.|g;", ""),
+    ("package a:b; let x = new c:d { |f: y }; export x.g;", ""),
+    ("package a:b; let x = new c|:d { f: y };", ""),
+    ("package a:b; let x = new c:d { f: y }; export x.|f;", ""),
+];
 
 /// Texts with a mark, and the names there, each with what is shown beside it.
 static DETAILS: [(&str, &str); 6] = [
@@ -379,21 +254,47 @@ static MORE_DETAILS: [(&str, &str); 2] = [
     ),
 ];
 
+/// The same of the component.
+static DETAILS_OF_COMPONENT: [(&str, &str); 1] = [(
+    "package a:b; let x = new c:d { f: y }; export x.|",
+    "g = func()",
+)];
+
+#[test]
+fn names_of_packages_are_declared_in_documents(rt: HostRuntime) -> Result<(), Fail> {
+    for (files, rows) in [
+        (PACKAGES.as_slice(), ROWS.as_slice()),
+        (INLINE.as_slice(), INLINE_ROWS.as_slice()),
+        (COMPONENT.as_slice(), WITHOUT_TEXT.as_slice()),
+    ] {
+        let found = difference(rt.alloc(), files, Asked::Declaration, rows)?;
+        assert!(rt; found.is_empty(), "{found}");
+    }
+    Ok(())
+}
+
+#[test]
+fn names_of_packages_are_described(rt: HostRuntime) -> Result<(), Fail> {
+    for (files, rows) in [
+        (PACKAGES.as_slice(), SAID.as_slice()),
+        (INLINE.as_slice(), INLINE_SAID.as_slice()),
+        (COMPONENT.as_slice(), OF_COMPONENT.as_slice()),
+    ] {
+        let found = difference(rt.alloc(), files, Asked::Description, rows)?;
+        assert!(rt; found.is_empty(), "{found}");
+    }
+    Ok(())
+}
+
 #[test]
 fn names_are_offered_with_their_types(rt: HostRuntime) -> Result<(), Fail> {
-    let workspace = workspace_of(rt.alloc(), &["packages"], &PACKAGES)?;
-    for (marked, expected) in &DETAILS {
-        let found = details(rt.alloc(), &workspace, marked)?;
-        assert!(rt; found.as_str() == *expected, "{marked}: {found}");
+    for (files, rows) in [
+        (PACKAGES.as_slice(), DETAILS.as_slice()),
+        (INLINE.as_slice(), MORE_DETAILS.as_slice()),
+        (COMPONENT.as_slice(), DETAILS_OF_COMPONENT.as_slice()),
+    ] {
+        let found = difference(rt.alloc(), files, Asked::Details, rows)?;
+        assert!(rt; found.is_empty(), "{found}");
     }
-    let workspace = workspace_of(rt.alloc(), &[], &INLINE)?;
-    for (marked, expected) in &MORE_DETAILS {
-        let found = details(rt.alloc(), &workspace, marked)?;
-        assert!(rt; found.as_str() == *expected, "{marked}: {found}");
-    }
-    let workspace = with_component(rt.alloc())?;
-    let text = "package a:b; let x = new c:d { f: y }; export x.|";
-    let found = details(rt.alloc(), &workspace, text)?;
-    assert!(rt; found.as_str() == "g = func()", "{found}");
     Ok(())
 }

@@ -17,9 +17,13 @@ mod mistakes;
 #[cfg(test)]
 mod offered;
 #[cfg(test)]
+mod questions;
+#[cfg(test)]
 mod sessions;
 #[cfg(test)]
 mod shop;
+#[cfg(test)]
+mod stories;
 #[cfg(test)]
 mod uris;
 #[cfg(test)]

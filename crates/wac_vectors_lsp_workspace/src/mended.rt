@@ -1,33 +1,8 @@
 //! Edits that mend what packages say is wrong with a text. The packages are those of examples/compose.
 
+use crate::questions::{Asked, difference};
 use crate::shop::PACKAGES;
-use crate::worked::{path_of, workspace_of};
-use std::alloc::{AllocError, Global};
 use std::test::Fail;
-use wac_lsp_workspace::{Mended, Workspace};
-
-/// A text after an edit.
-fn text_after(alloc: Global, text: &str, mended: &Mended) -> Result<String, AllocError> {
-    let end = mended.span.offset().saturating_add(mended.span.len());
-    let before = text.get(..mended.span.offset()).unwrap_or("");
-    let behind = text.get(end..).unwrap_or("");
-    let new = mended.text.as_str();
-    format!(in alloc; "{before}{new}{behind}")
-}
-
-/// What each edit does, and the text after it, a line for both.
-fn lines_of(alloc: Global, workspace: &Workspace, text: &str) -> Result<String, AllocError> {
-    let path = path_of(alloc, "app.wac")?;
-    let mut lines = String::new(alloc);
-    for mended in &workspace.mended(alloc, path.as_str(), text)? {
-        let after = text_after(alloc, text, mended)?;
-        lines.push_str(mended.title.as_str())?;
-        lines.push('\n')?;
-        lines.push_str(after.as_str())?;
-        lines.push('\n')?;
-    }
-    Ok(lines)
-}
 
 /// Texts, and what is said of the edit that mends each, with the text after it.
 static ROWS: [(&str, &str); 13] = [
@@ -92,10 +67,7 @@ static ROWS: [(&str, &str); 13] = [
 
 #[test]
 fn names_and_arguments_are_mended(rt: HostRuntime) -> Result<(), Fail> {
-    let workspace = workspace_of(rt.alloc(), &["packages"], &PACKAGES)?;
-    for (text, expected) in &ROWS {
-        let found = lines_of(rt.alloc(), &workspace, text)?;
-        assert!(rt; found.as_str() == *expected, "{text}: {found}");
-    }
+    let found = difference(rt.alloc(), &PACKAGES, Asked::Edits, &ROWS)?;
+    assert!(rt; found.is_empty(), "{found}");
     Ok(())
 }

@@ -128,32 +128,42 @@ fn wanted_of(alloc: Global, mistake: &Mistake, text: &str) -> Result<String, All
     format!(in alloc; "{code} {offset}+{len}{between}{help}\n")
 }
 
-#[test]
-fn the_application_has_no_error(rt: HostRuntime) -> Result<(), Fail> {
-    let workspace = workspace_of(rt.alloc(), &["packages"], PACKAGES.as_slice())?;
-    let found = told(rt.alloc(), &workspace, "app.wac", APP)?;
-    assert!(rt; found.is_empty(), "{found}");
-    Ok(())
+/// The first mistake of which something else is said, with what is said and what was to be. Nothing where there is none.
+fn difference(alloc: Global, mistakes: &[Mistake]) -> Result<String, AllocError> {
+    let workspace = workspace_of(alloc, &["packages"], &PACKAGES)?;
+    for mistake in mistakes {
+        let text = text_of(alloc, mistake)?;
+        let wanted = wanted_of(alloc, mistake, text.as_str())?;
+        let found = told(alloc, &workspace, "app.wac", text.as_str())?;
+        if found != wanted {
+            return format!(in alloc; "{found}{wanted}");
+        }
+    }
+    Ok(String::new(alloc))
 }
 
 #[test]
 fn mistakes_are_told_as_the_command_tells_them(rt: HostRuntime) -> Result<(), Fail> {
-    let workspace = workspace_of(rt.alloc(), &["packages"], PACKAGES.as_slice())?;
-    for mistake in MISTAKES.as_slice() {
-        let text = text_of(rt.alloc(), mistake)?;
-        let wanted = wanted_of(rt.alloc(), mistake, text.as_str())?;
-        let found = told(rt.alloc(), &workspace, "app.wac", text.as_str())?;
-        assert!(rt; found == wanted, "{found}{wanted}");
-    }
+    let found = difference(rt.alloc(), &MISTAKES)?;
+    assert!(rt; found.is_empty(), "{found}");
     Ok(())
 }
 
+/// What is said of texts, each with its name below the folder.
+fn told_of_all(alloc: Global, texts: &[(&str, &str)]) -> Result<String, AllocError> {
+    let workspace = workspace_of(alloc, &["packages"], &PACKAGES)?;
+    let mut all = String::new(alloc);
+    for (name, text) in texts {
+        all.push_str(told(alloc, &workspace, name, text)?.as_str())?;
+    }
+    Ok(all)
+}
+
 #[test]
-fn documents_that_declare_packages_have_no_error(rt: HostRuntime) -> Result<(), Fail> {
-    let workspace = workspace_of(rt.alloc(), &["packages"], PACKAGES.as_slice())?;
-    for (name, text) in PACKAGES.as_slice() {
-        let found = told(rt.alloc(), &workspace, name, text)?;
-        assert!(rt; found.is_empty(), "{name}: {found}");
+fn the_application_and_its_packages_have_no_error(rt: HostRuntime) -> Result<(), Fail> {
+    for texts in [[("app.wac", APP)].as_slice(), PACKAGES.as_slice()] {
+        let found = told_of_all(rt.alloc(), texts)?;
+        assert!(rt; found.is_empty(), "{found}");
     }
     Ok(())
 }

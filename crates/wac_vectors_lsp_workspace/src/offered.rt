@@ -1,45 +1,9 @@
 //! Which names of packages can stand at an offset of a text. The names are those that the documents of examples/compose
 //! declare.
 
+use crate::questions::{Asked, difference};
 use crate::shop::PACKAGES;
-use crate::worked::workspace_of;
-use std::alloc::{AllocError, Global};
-use std::process::Abort;
 use std::test::Fail;
-use wac_lsp_workspace::{Offered, Workspace};
-
-/// What a name stands for, in a letter.
-fn letter(what: Offered) -> char {
-    match what {
-        Offered::Function => 'f',
-        Offered::Instance => 'i',
-        Offered::Type => 't',
-        Offered::Package => 'p',
-        Offered::Other => '?',
-    }
-}
-
-/// The names at the mark of a text, each with a letter for what it stands for, behind where what they replace begins, if
-/// that isn't the word.
-fn line_of(alloc: Global, workspace: &Workspace, marked: &str) -> Result<String, AllocError> {
-    let (before, after) = marked.split_once('|').unwrap_or((marked, ""));
-    let mut text = String::from_str(alloc, before)?;
-    text.push_str(after)?;
-    let offers = workspace.names_at(alloc, text.as_str(), before.len())?;
-    let mut line = String::new(alloc);
-    if let Some(start) = offers.start {
-        line.push_str(format!(in alloc; "{start}")?.as_str())?;
-    }
-    for offer in &offers.all {
-        if !line.is_empty() {
-            line.push(' ')?;
-        }
-        line.push(letter(offer.what))?;
-        line.push(':')?;
-        line.push_str(offer.written.as_str())?;
-    }
-    Ok(line)
-}
 
 /// Texts with a mark, and the names there.
 static ROWS: [(&str, &str); 26] = [
@@ -143,22 +107,20 @@ static ALIKE: [(&str, &str); 1] = [(
     "package c:d;\n\ninterface i {\n    f: func();\n}\n\nworld w {\n    import e: interface {\n        f: func();\n    };\n    import %let: func();\n    import i;\n    export i;\n}\n",
 )];
 
+/// The same of these.
+static OF_ALIKE: [(&str, &str); 1] = [("package a:b; let x = new c:d { |", "i:e f:%let i:i")];
+
 #[test]
 fn names_of_packages_are_offered(rt: HostRuntime) -> Result<(), Fail> {
-    let workspace = workspace_of(rt.alloc(), &["packages"], &PACKAGES)?;
-    for (marked, expected) in &ROWS {
-        let found = line_of(rt.alloc(), &workspace, marked)?;
-        assert!(rt; found.as_str() == *expected, "{marked}: {found}");
-    }
+    let found = difference(rt.alloc(), &PACKAGES, Asked::Names, &ROWS)?;
+    assert!(rt; found.is_empty(), "{found}");
     Ok(())
 }
 
 #[test]
 fn keywords_are_offered_with_their_sign(rt: HostRuntime) -> Result<(), Fail> {
-    let workspace = workspace_of(rt.alloc(), &[], &ALIKE)?;
-    let text = "package a:b; let x = new c:d { |";
-    let found = line_of(rt.alloc(), &workspace, text)?;
-    assert!(rt; found.as_str() == "i:e f:%let i:i", "{found}");
+    let found = difference(rt.alloc(), &ALIKE, Asked::Names, &OF_ALIKE)?;
+    assert!(rt; found.is_empty(), "{found}");
     Ok(())
 }
 
@@ -212,15 +174,14 @@ static OF_TWO: [(&str, &str); 5] = [
 
 #[test]
 fn packages_and_paths_are_offered(rt: HostRuntime) -> Result<(), Fail> {
-    let workspace = workspace_of(rt.alloc(), &["packages"], &PACKAGES)?;
-    for (marked, expected) in &NAMED {
-        let found = line_of(rt.alloc(), &workspace, marked)?;
-        assert!(rt; found.as_str() == *expected, "{marked}: {found}");
-    }
-    let workspace = workspace_of(rt.alloc(), &[], &TWO)?;
-    for (marked, expected) in &OF_TWO {
-        let found = line_of(rt.alloc(), &workspace, marked)?;
-        assert!(rt; found.as_str() == *expected, "{marked}: {found}");
-    }
+    let found = difference(rt.alloc(), &PACKAGES, Asked::Names, &NAMED)?;
+    assert!(rt; found.is_empty(), "{found}");
+    Ok(())
+}
+
+#[test]
+fn packages_with_and_without_a_version_are_offered(rt: HostRuntime) -> Result<(), Fail> {
+    let found = difference(rt.alloc(), &TWO, Asked::Names, &OF_TWO)?;
+    assert!(rt; found.is_empty(), "{found}");
     Ok(())
 }

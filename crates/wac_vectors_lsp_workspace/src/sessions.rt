@@ -247,27 +247,24 @@ fn difference(alloc: Global, begins: &str, rows: &[Row]) -> Result<String, Chang
     Ok(String::new(alloc))
 }
 
-#[test]
-fn a_session_follows_the_packages_of_its_folder(rt: HostRuntime) -> Result<(), Fail> {
-    match difference(rt.alloc(), BEGINS, ROWS.as_slice()) {
-        Ok(found) => assert!(rt; found.is_empty(), "{found}"),
-        Err(error) => assert!(rt; false, "{error:?}"),
+/// The first message of all sessions after which something else is sent, with that.
+fn first_difference(alloc: Global) -> Result<String, ChangeError> {
+    for (begins, rows) in [
+        (BEGINS, ROWS.as_slice()),
+        (BEGINS_ALONE, FOLDERS.as_slice()),
+        (BEGINS, LOST.as_slice()),
+    ] {
+        let found = difference(alloc, begins, rows)?;
+        if !found.is_empty() {
+            return Ok(found);
+        }
     }
-    Ok(())
+    Ok(String::new(alloc))
 }
 
 #[test]
-fn a_session_follows_the_folders_of_its_client(rt: HostRuntime) -> Result<(), Fail> {
-    match difference(rt.alloc(), BEGINS_ALONE, FOLDERS.as_slice()) {
-        Ok(found) => assert!(rt; found.is_empty(), "{found}"),
-        Err(error) => assert!(rt; false, "{error:?}"),
-    }
-    Ok(())
-}
-
-#[test]
-fn a_session_follows_files_where_changes_are_lost(rt: HostRuntime) -> Result<(), Fail> {
-    match difference(rt.alloc(), BEGINS, LOST.as_slice()) {
+fn sessions_follow_folders_and_their_packages(rt: HostRuntime) -> Result<(), Fail> {
+    match first_difference(rt.alloc()) {
         Ok(found) => assert!(rt; found.is_empty(), "{found}"),
         Err(error) => assert!(rt; false, "{error:?}"),
     }

@@ -8,8 +8,14 @@ use wac_lsp_workspace::{Workspace, read_folders};
 /// The folder of the tests.
 pub(crate) const FOLDER: &str = "/project";
 
-/// The path of a name in the folder.
+/// Names of files, each with the file's text.
+pub(crate) type Texts = &'static [(&'static str, &'static str)];
+
+/// The path of a name in the folder. A path, and the empty name, is one as it stands.
 pub(crate) fn path_of(alloc: Global, name: &str) -> Result<String, AllocError> {
+    if name.is_empty() || name.starts_with('/') {
+        return String::from_str(alloc, name);
+    }
     format!(in alloc; "{FOLDER}/{name}")
 }
 
@@ -21,7 +27,7 @@ pub(crate) fn empty(alloc: Global) -> Result<Workspace, AllocError> {
 }
 
 /// Has a workspace read its folders.
-pub(crate) fn read(
+fn read(
     alloc: Global,
     workspace: &mut Workspace,
     files: &mut MemoryFiles,
@@ -54,10 +60,20 @@ pub(crate) fn workspace_of(
     folders: &[&str],
     files: &[(&str, &str)],
 ) -> Result<Workspace, AllocError> {
-    let mut files = files_of(alloc, folders, files)?;
     let mut workspace = empty(alloc)?;
-    read(alloc, &mut workspace, &mut files)?;
+    read_again(alloc, &mut workspace, folders, files)?;
     Ok(workspace)
+}
+
+/// Has a workspace read its folder again, with these folders and files in it.
+pub(crate) fn read_again(
+    alloc: Global,
+    workspace: &mut Workspace,
+    folders: &[&str],
+    files: &[(&str, &str)],
+) -> Result<(), AllocError> {
+    let mut files = files_of(alloc, folders, files)?;
+    read(alloc, workspace, &mut files)
 }
 
 /// What is said, a line each: the code, the offset and the length of the place, and the help.
@@ -99,6 +115,16 @@ pub(crate) fn open(
     text: &str,
 ) -> Result<bool, AllocError> {
     let path = path_of(alloc, name)?;
-    let uri = format!(in alloc; "file://{FOLDER}/{name}")?;
+    let uri = format!(in alloc; "file://{path}")?;
     workspace.open(alloc, path.as_str(), uri.as_str(), text)
+}
+
+/// Closes the text of a name in the folder. Returns whether packages were made anew.
+pub(crate) fn close(
+    alloc: Global,
+    workspace: &mut Workspace,
+    name: &str,
+) -> Result<bool, AllocError> {
+    let path = path_of(alloc, name)?;
+    workspace.close(alloc, path.as_str())
 }

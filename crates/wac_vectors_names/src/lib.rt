@@ -1,15 +1,13 @@
-//! Tests of `wac_names`: documents with a mark before each name, which says which name it is.
+//! Tests of what an editor asks of a text: which name is where, and what it denotes (`wac_names`); what can stand at an
+//! offset (`wac_completion`); where a name is bound and used, and texts after a renaming (`wac_lsp_names`); what texts
+//! declare, and what of them can be folded (`wac_lsp_outline`).
 #![tactic(auto)]
 
 #[cfg(test)]
-mod bounds;
+mod completion;
 #[cfg(test)]
-mod kinds;
+mod lsp_names;
 #[cfg(test)]
-mod marked;
+mod names;
 #[cfg(test)]
-mod offsets;
-#[cfg(test)]
-mod rows;
-#[cfg(test)]
-mod tested;
+mod outline;

@@ -1,6 +1,6 @@
 //! Tests of the packages that documents declare and of those of components: what documents declare, and each error with
 //! its place; which files are found under which keys, what is read of them, and what is said of packages that are
-//! declared too.
+//! declared too; which names of versions are compatible.
 #![tactic(auto)]
 
 #[cfg(test)]
@@ -19,3 +19,5 @@ mod packages;
 mod shown;
 #[cfg(test)]
 mod supplied;
+#[cfg(test)]
+mod versions;

@@ -22,7 +22,7 @@ type Nested = (&'static str, &'static str, &'static str);
 /// What nests, how a document with it is printed, and its graph. In both texts `@` is its place.
 type Row = (Nested, &'static str, &'static str);
 
-const ROWS: [Row; 6] = [
+static ROWS: [Row; 6] = [
     (
         ("(", "y", ")"),
         "package a:b;\n\nimport y: func();\n\nlet x = @;\n",
@@ -66,8 +66,8 @@ fn document(alloc: Global, nested: &Nested, text: &str) -> Result<String, AllocE
 
 #[test]
 fn deep_texts_are_printed_and_resolved(rt: HostRuntime) -> Result<(), Fail> {
-    for (nested, text, graph) in ROWS {
-        let source = document(rt.alloc(), &nested, text)?;
+    for (nested, text, graph) in &ROWS {
+        let source = document(rt.alloc(), nested, text)?;
         writes(&rt, rt.alloc(), "fmt", &source, &source)?;
         writes(&rt, rt.alloc(), "resolve", &source, graph)?;
     }

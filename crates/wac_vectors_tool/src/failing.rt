@@ -15,7 +15,7 @@ struct Row<'a> {
     text: &'a str,
 }
 
-const ROWS: [Row<'static>; 7] = [
+static ROWS: [Row<'static>; 7] = [
     Row {
         command: Command::Fmt,
         input: FIRST,
@@ -114,7 +114,7 @@ impl Row<'_> {
 /// A writer that takes a byte, three bytes or all bytes a call.
 #[test]
 fn narrow_writers(rt: HostRuntime) {
-    for row in ROWS {
+    for row in &ROWS {
         let len = row.text.len();
         for (width, calls) in [
             (1, len),
@@ -142,9 +142,9 @@ fn writers_stop_once(rt: &impl Abort, alloc: Global, row: &Row, stop: Stop) {
 /// A writer that fails, or takes nothing, at one call alone.
 #[test]
 fn writers_are_not_tried_again(rt: HostRuntime) {
-    for row in ROWS {
+    for row in &ROWS {
         for stop in [Stop::FailsOnce, Stop::EndsOnce] {
-            writers_stop_once(&rt, rt.alloc(), &row, stop);
+            writers_stop_once(&rt, rt.alloc(), row, stop);
         }
     }
 }
@@ -256,7 +256,7 @@ const LINES: &str = "package a:b;\nlet x = y;\n";
 const LINE: usize = 13;
 
 /// What the commands write of the first line.
-const OF_A_LINE: [Row<'static>; 5] = [
+static OF_A_LINE: [Row<'static>; 5] = [
     Row {
         command: Command::Fmt,
         input: LINES,
@@ -300,13 +300,13 @@ impl Row<'_> {
 /// A reader isn't called again once it has reported its end, as a terminal requires.
 #[test]
 fn readers_end_once(rt: HostRuntime) {
-    for row in OF_A_LINE {
+    for row in &OF_A_LINE {
         row.ends_with_a_line(&rt, rt.alloc(), 1, LINE + 1);
         row.ends_with_a_line(&rt, rt.alloc(), usize::MAX, 2);
     }
 }
 
-const REJECTED: [Row<'static>; 8] = [
+static REJECTED: [Row<'static>; 8] = [
     Row {
         command: Command::Fmt,
         input: "package a:b; let",
@@ -352,10 +352,10 @@ const REJECTED: [Row<'static>; 8] = [
 /// Passes also where a request for memory fails, each in turn.
 #[test]
 fn memory_that_is_refused(rt: HostRuntime) {
-    for row in ROWS {
+    for row in &ROWS {
         row.is_written_or_memory_runs_out(&rt, rt.alloc());
     }
-    for row in REJECTED {
+    for row in &REJECTED {
         row.is_written_or_memory_runs_out(&rt, rt.alloc());
     }
 }

@@ -99,43 +99,34 @@ fn all_stay(rt: &impl Abort, alloc: Global, options: Options) -> Result<(), Fail
     Ok(())
 }
 
-#[test]
-fn comments_are_kept(rt: HostRuntime) -> Result<(), Fail> {
-    all_stay(&rt, rt.alloc(), Options::default())
-}
-
-#[test]
-fn comments_are_kept_with_tabs(rt: HostRuntime) -> Result<(), Fail> {
-    let options = Options {
+/// Layouts: with other indents, and with other ends of lines.
+static LAYOUTS: [Options; 5] = [
+    Options {
+        indent: Indent::Blanks(4),
+        line_end: LineEnd::Lf,
+    },
+    Options {
         indent: Indent::Tab,
         line_end: LineEnd::Lf,
-    };
-    all_stay(&rt, rt.alloc(), options)
-}
-
-#[test]
-fn comments_are_kept_with_returns(rt: HostRuntime) -> Result<(), Fail> {
-    let options = Options {
+    },
+    Options {
         indent: Indent::Blanks(1),
         line_end: LineEnd::CrLf,
-    };
-    all_stay(&rt, rt.alloc(), options)
-}
-
-#[test]
-fn comments_are_kept_with_tabs_and_returns(rt: HostRuntime) -> Result<(), Fail> {
-    let options = Options {
+    },
+    Options {
         indent: Indent::Tab,
         line_end: LineEnd::CrLf,
-    };
-    all_stay(&rt, rt.alloc(), options)
-}
-
-#[test]
-fn comments_are_kept_with_sixteen_blanks(rt: HostRuntime) -> Result<(), Fail> {
-    let options = Options {
+    },
+    Options {
         indent: Indent::Blanks(16),
         line_end: LineEnd::CrLf,
-    };
-    all_stay(&rt, rt.alloc(), options)
+    },
+];
+
+#[test]
+fn comments_are_kept_in_each_layout(rt: HostRuntime) -> Result<(), Fail> {
+    for options in &LAYOUTS {
+        all_stay(&rt, rt.alloc(), *options)?;
+    }
+    Ok(())
 }

@@ -1,4 +1,4 @@
-//! Tests of `wac_tool`: whole runs, what is said of rejected texts, and readers, writers and memory that fail;
+//! Tests of `wac_tool`: whole runs, and readers, writers and memory that fail;
 //! documents made by a seeded generator, which are read, printed and resolved; the lines of a graph, and a graph in the
 //! forms of `wacx graph`.
 #![tactic(auto)]
@@ -7,8 +7,6 @@
 mod answers;
 #[cfg(test)]
 mod chains;
-#[cfg(test)]
-mod checking;
 #[cfg(test)]
 mod choices;
 #[cfg(test)]
@@ -36,12 +34,6 @@ mod graph_package;
 #[cfg(test)]
 mod graph_rules;
 #[cfg(test)]
-mod layouts;
-#[cfg(test)]
 mod narrow;
-#[cfg(test)]
-mod packages;
-#[cfg(test)]
-mod resolving;
 #[cfg(test)]
 mod runs;
