@@ -3,25 +3,8 @@
 use crate::conversion::ConversionError;
 use crate::converter::Converter;
 use indexmap::IndexMap;
-use std::alloc::Global;
 use wac_components_types::{ComponentId, InstanceId, Item, NameId, Owner, TypeDef, TypeId};
 use wac_graph_types::{Interface, ItemKind, ModuleTypeId, Type, UsedType, World};
-
-/// The items of an interface or a world, and the types that it has from other interfaces.
-#[derive(Drop)]
-struct Items {
-    all: IndexMap<String, ItemKind>,
-    uses: IndexMap<String, UsedType>,
-}
-
-impl Items {
-    fn new(alloc: Global) -> Self {
-        Items {
-            all: IndexMap::new(alloc),
-            uses: IndexMap::new(alloc),
-        }
-    }
-}
 
 impl<'t> Converter<'t> {
     /// The kind of an item, all of which is converted.
@@ -85,70 +68,24 @@ impl<'t> Converter<'t> {
         Ok(())
     }
 
-    /// Adds an item of an interface or a world, and a type that it has from another interface.
-    fn add_item(
-        &mut self,
-        items: &mut Items,
-        (name, item): (NameId, Item),
-        owner: Owner,
-    ) -> Result<(), ConversionError> {
-        let kind = self.item_kind(item)?;
-        items.all.insert(self.text(name)?, kind)?;
-        match item {
-            Item::Type(ty) => self.add_use(&mut items.uses, name, ty, owner),
-            _ => Ok(()),
-        }
-    }
-
-    /// What an instance exports.
-    fn exported_items(&mut self, instance: InstanceId) -> Result<Items, ConversionError> {
-        let mut items = Items::new(self.alloc);
-        for place in 0..self.table.export_count(instance) {
-            if let Some(export) = self.table.export_at(instance, place) {
-                self.add_item(&mut items, export, Owner::Instance(instance))?;
-            }
-        }
-        Ok(items)
-    }
-
-    /// What a component imports, so many items.
-    fn imported_items(
-        &mut self,
-        component: ComponentId,
-        count: usize,
-    ) -> Result<Items, ConversionError> {
-        let mut items = Items::new(self.alloc);
-        for place in 0..count {
-            if let Some(import) = self.table.import_at(component, place) {
-                self.add_item(&mut items, import, Owner::Component(component))?;
-            }
-        }
-        Ok(items)
-    }
-
     /// Converts an instance, all of whose exports are converted.
     pub(crate) fn convert_instance(&mut self, instance: InstanceId) -> Result<(), ConversionError> {
         if self.interfaces.contains_key(&instance.0) {
             return Ok(());
         }
+        let mut exports = IndexMap::new(self.alloc);
+        let mut uses = IndexMap::new(self.alloc);
+        for place in 0..self.table.export_count(instance) {
+            if let Some((name, item)) = self.table.export_at(instance, place) {
+                let kind = self.item_kind(item)?;
+                exports.insert(self.text(name)?, kind)?;
+                if let Item::Type(ty) = item {
+                    self.add_use(&mut uses, name, ty, Owner::Instance(instance))?;
+                }
+            }
+        }
         let id = self.id_of(instance)?;
-        let items = self.exported_items(instance)?;
-        self.add_interface(instance, id, items)
-    }
-
-    /// Adds the interface of an instance.
-    fn add_interface(
-        &mut self,
-        instance: InstanceId,
-        id: Option<String>,
-        items: Items,
-    ) -> Result<(), ConversionError> {
-        let Items { all, uses } = items;
-        let interface = self.types.add_interface(Interface {
-            id,
-            uses,
-            exports: all,
-        })?;
+        let interface = self.types.add_interface(Interface { id, uses, exports })?;
         self.interfaces.insert(instance.0, interface)?;
         Ok(())
     }
@@ -182,23 +119,22 @@ impl<'t> Converter<'t> {
         };
         let instance = found.instance;
         let count = found.imports.len();
-        let imports = self.imported_items(component, count)?;
+        let mut uses = IndexMap::new(self.alloc);
+        let mut imports = IndexMap::new(self.alloc);
+        for place in 0..count {
+            if let Some((name, item)) = self.table.import_at(component, place) {
+                let kind = self.item_kind(item)?;
+                imports.insert(self.text(name)?, kind)?;
+                if let Item::Type(ty) = item {
+                    self.add_use(&mut uses, name, ty, Owner::Component(component))?;
+                }
+            }
+        }
         let exports = self.exports(instance)?;
-        self.add_world(component, imports, exports)
-    }
-
-    /// Adds the world of a component.
-    fn add_world(
-        &mut self,
-        component: ComponentId,
-        imports: Items,
-        exports: IndexMap<String, ItemKind>,
-    ) -> Result<(), ConversionError> {
-        let Items { all, uses } = imports;
         let world = self.types.add_world(World {
             id: None,
             uses,
-            imports: all,
+            imports,
             exports,
         })?;
         self.worlds.insert(component.0, world)?;

@@ -5,9 +5,7 @@ ghost use Rattle.wac_graph_types.specs.Package.{IsPackage};
 use crate::parts::{add_instance, copied_items, copied_types};
 use indexmap::IndexMap;
 use std::alloc::{AllocError, Global};
-use wac_graph::{
-    Interface, InterfaceId, ItemKind, Package, PackageError, Types, UsedType, World, WorldId,
-};
+use wac_graph::{Interface, InterfaceId, ItemKind, Package, PackageError, Types, UsedType, World};
 
 /// What a world imports, with what is implied, and interfaces whose uses aren't looked at yet.
 #[derive(Drop)]
@@ -32,38 +30,15 @@ pub fn with_implied_imports(alloc: Global, package: &Package) -> Result<Package,
 {
     let imports = implied_imports(alloc, package)?;
     let exports = exports_of(alloc, package)?;
-    with_world(alloc, package, imports, exports)
-}
-
-/// The package with a world that imports and exports these items. It has no definitions.
-fn with_world(
-    alloc: Global,
-    package: &Package,
-    imports: IndexMap<String, ItemKind>,
-    exports: IndexMap<String, ItemKind>,
-) -> Result<Package, PackageError>
-    ensures { IfOk result IsPackage }
-{
     let mut types = copied_types(alloc, package)?;
-    let world = add_world(alloc, &mut types, imports, &exports)?;
-    let instance = add_instance(alloc, &mut types, exports)?;
-    Package::new(types, world, instance, IndexMap::new(alloc))
-}
-
-/// Adds a world that imports and exports these items.
-fn add_world(
-    alloc: Global,
-    types: &mut Types,
-    imports: IndexMap<String, ItemKind>,
-    exports: &IndexMap<String, ItemKind>,
-) -> Result<WorldId, AllocError> {
-    let exports = copied_items(alloc, exports)?;
-    types.add_world(World {
+    let world = types.add_world(World {
         id: None,
         uses: IndexMap::new(alloc),
         imports,
-        exports,
-    })
+        exports: copied_items(alloc, &exports)?,
+    })?;
+    let instance = add_instance(alloc, &mut types, exports)?;
+    Package::new(types, world, instance, IndexMap::new(alloc))
 }
 
 /// What a package's world exports.
