@@ -26,13 +26,40 @@ pub fn drawn(
     graph: &CompositionGraph,
     form: Form,
 ) -> Result<Vec<u8>, AllocError> {
-    let places = bound_places(alloc, statements)?;
-    let picture = Picture::of(alloc, graph, &places)?;
-    match form {
-        Form::Text => text(alloc, graph, &picture),
-        Form::Json => json_line(alloc, &picture),
-        Form::Dot => Vec::from_slice(alloc, dot(alloc, &picture)?.as_bytes()),
+    match picture_of(alloc, statements, graph) {
+        Ok(picture) => shown(alloc, graph, &picture, form),
+        Err(error) => Err(error),
     }
+}
+
+/// What is shown of the graph of a document with these statements.
+fn picture_of(
+    alloc: Global,
+    statements: Statements<'_, '_>,
+    graph: &CompositionGraph,
+) -> Result<Picture, AllocError> {
+    let places = bound_places(alloc, statements)?;
+    Picture::of(alloc, graph, &places)
+}
+
+/// A graph in a form.
+fn shown(
+    alloc: Global,
+    graph: &CompositionGraph,
+    picture: &Picture,
+    form: Form,
+) -> Result<Vec<u8>, AllocError> {
+    match form {
+        Form::Text => text(alloc, graph, picture),
+        Form::Json => json_line(alloc, picture),
+        Form::Dot => dot_text(alloc, picture),
+    }
+}
+
+/// A graph for Graphviz.
+fn dot_text(alloc: Global, picture: &Picture) -> Result<Vec<u8>, AllocError> {
+    let text = dot(alloc, picture)?;
+    Vec::from_slice(alloc, text.as_bytes())
 }
 
 /// A graph as JSON, with the end of the line.
