@@ -1,5 +1,5 @@
 // Nesting.
-use crate::rooms::{line, push_difference, room};
+use crate::calls::rooms::{line, push_difference, room};
 use std::alloc::{AllocError, Global};
 use std::test::Fail;
 use wac_calls::{Command, DEFAULT_LIMIT, Task, Word, call};

@@ -1,17 +1,8 @@
 //! What the last of some texts declares.
 
-use crate::shown::last_declared;
-use std::alloc::{AllocError, Global};
-use std::test::Fail;
+use crate::packages::rows::Row;
 
-/// Texts, chosen worlds, and what the last one declares.
-type Row = (
-    &'static [&'static str],
-    &'static [(&'static str, &'static str)],
-    &'static str,
-);
-
-static WORLDS: [Row; 7] = [
+pub(crate) static WORLDS: [Row; 7] = [
     (
         &[
             "package a:b@1.0.0; interface i { f: func(); } world w { import log: func(); export i; }",
@@ -53,7 +44,7 @@ static WORLDS: [Row; 7] = [
     ),
 ];
 
-static MENTIONS: [Row; 6] = [
+pub(crate) static MENTIONS: [Row; 6] = [
     (
         &[
             "package a:b; interface i { type t = u8; resource r; }",
@@ -100,30 +91,3 @@ static MENTIONS: [Row; 6] = [
         "defines point:value type side:value type; imports; exports",
     ),
 ];
-
-/// What was found in place of what a row expects, of each row where that differs.
-fn differences(alloc: Global, rows: &[Row]) -> Result<String, AllocError> {
-    let mut all = String::new(alloc);
-    for (texts, worlds, expected) in rows {
-        let found = last_declared(alloc, texts, worlds)?;
-        if found.as_str() != *expected {
-            all.push_str(found.as_str())?;
-            all.push('\n')?;
-        }
-    }
-    Ok(all)
-}
-
-#[test]
-fn worlds_are_chosen(rt: HostRuntime) -> Result<(), Fail> {
-    let found = differences(rt.alloc(), &WORLDS)?;
-    assert!(rt; found.is_empty(), "{found}");
-    Ok(())
-}
-
-#[test]
-fn packages_are_what_their_documents_declare(rt: HostRuntime) -> Result<(), Fail> {
-    let found = differences(rt.alloc(), &MENTIONS)?;
-    assert!(rt; found.is_empty(), "{found}");
-    Ok(())
-}

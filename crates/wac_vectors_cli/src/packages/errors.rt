@@ -1,17 +1,8 @@
 //! Each error of a declaration, with the number of its text and its place. Offsets are counted by hand.
 
-use crate::shown::declared;
-use std::alloc::{AllocError, Global};
-use std::test::Fail;
+use crate::packages::rows::Row;
 
-/// Texts, chosen worlds, and the fault that is expected.
-type Row = (
-    &'static [&'static str],
-    &'static [(&'static str, &'static str)],
-    &'static str,
-);
-
-static STATEMENTS: [Row; 9] = [
+pub(crate) static STATEMENTS: [Row; 9] = [
     (
         &["package a:b; import f: func();"],
         &[],
@@ -58,7 +49,7 @@ static STATEMENTS: [Row; 9] = [
     ),
 ];
 
-static TEXTS: [Row; 12] = [
+pub(crate) static TEXTS: [Row; 12] = [
     (&["package a:b; interface i {"], &[], "0 syntax 24+1"),
     (&[""], &[], "0 syntax 0+1"),
     // The first of two declarations of a name is named by the second.
@@ -121,7 +112,7 @@ static TEXTS: [Row; 12] = [
     ),
 ];
 
-static MENTIONS: [Row; 9] = [
+pub(crate) static MENTIONS: [Row; 9] = [
     (
         &["package a:b; world w { import c:d/i@1.0.0; }"],
         &[],
@@ -194,37 +185,3 @@ static MENTIONS: [Row; 9] = [
         "0 resolution 34+1",
     ),
 ];
-
-/// What was found in place of what a row expects, of each row where that differs.
-fn differences(alloc: Global, rows: &[Row]) -> Result<String, AllocError> {
-    let mut all = String::new(alloc);
-    for (texts, worlds, expected) in rows {
-        let found = declared(alloc, texts, worlds)?;
-        if found.as_str() != *expected {
-            all.push_str(found.as_str())?;
-            all.push('\n')?;
-        }
-    }
-    Ok(all)
-}
-
-#[test]
-fn statements_of_another_sort_are_errors(rt: HostRuntime) -> Result<(), Fail> {
-    let found = differences(rt.alloc(), &STATEMENTS)?;
-    assert!(rt; found.is_empty(), "{found}");
-    Ok(())
-}
-
-#[test]
-fn texts_have_their_first_errors(rt: HostRuntime) -> Result<(), Fail> {
-    let found = differences(rt.alloc(), &TEXTS)?;
-    assert!(rt; found.is_empty(), "{found}");
-    Ok(())
-}
-
-#[test]
-fn mentions_that_lead_nowhere_are_errors(rt: HostRuntime) -> Result<(), Fail> {
-    let found = differences(rt.alloc(), &MENTIONS)?;
-    assert!(rt; found.is_empty(), "{found}");
-    Ok(())
-}

@@ -1,14 +1,9 @@
 //! What many texts declare where some of them are faulty: each text has its first fault, and no other.
 
-use crate::shown::all_declared;
-use std::alloc::{AllocError, Global};
-use std::test::Fail;
+use crate::packages::rows::Row;
 
-/// Texts, and the keys of their packages with the faults.
-type Row = (&'static [&'static str], &'static str);
-
-static FAULTY: [Row; 6] = [
-    (&[], "|"),
+pub(crate) static FAULTY: [Row; 6] = [
+    (&[], &[], "|"),
     // What mentions a faulty text has neither a package nor a fault.
     (
         &[
@@ -18,10 +13,12 @@ static FAULTY: [Row; 6] = [
             "package g:h; world w { import e:f/i; }",
             "package k:l;",
         ],
+        &[],
         "a:b k:l | 1 other statement 20+1",
     ),
     (
         &["", "package a:b;", "package c:d; type t = u;"],
+        &[],
         "a:b | 0 syntax 0+1 2 resolution 22+1",
     ),
     // A text without a tree declares the package of its directive.
@@ -31,10 +28,12 @@ static FAULTY: [Row; 6] = [
             "package a:b;",
             "package c:d; interface j { use a:b/i.{t}; }",
         ],
+        &[],
         "| 0 syntax 24+1 1 declared twice 8+3",
     ),
     (
         &["/// x\npackage a:b; interface i {", "package a:b;"],
+        &[],
         "| 0 syntax 30+1 1 declared twice 8+3",
     ),
     // A chosen world that isn't there, and a package that waits for its text.
@@ -44,11 +43,12 @@ static FAULTY: [Row; 6] = [
             "package a:b targets e:f/w;",
             "package g:h; interface k { use c:d/j.{t}; use m:n/l.{t}; }",
         ],
+        &[],
         "| 1 targets 20+5 2 unknown package 46+3",
     ),
 ];
 
-static CYCLES: [Row; 3] = [
+pub(crate) static CYCLES: [Row; 3] = [
     // Two cycles, and a text that leads into one of them.
     (
         &[
@@ -59,6 +59,7 @@ static CYCLES: [Row; 3] = [
             "package k:l; interface m { use a:b/i.{t}; }",
             "package m:n;",
         ],
+        &[],
         "m:n | 0 cycle 31+3 2 cycle 31+3",
     ),
     // A cycle that waits for a faulty text too is reported once that text is mended.
@@ -67,6 +68,7 @@ static CYCLES: [Row; 3] = [
             "package a:b; interface i { use x:y/z.{t}; use c:d/j.{t}; }",
             "package c:d; interface j { use a:b/i.{t}; }",
         ],
+        &[],
         "| 0 unknown package 31+3",
     ),
     // Four in a cycle, one of which mentions two of them.
@@ -77,33 +79,7 @@ static CYCLES: [Row; 3] = [
             "package a:b; interface i { use a:c/i.{t}; }",
             "package a:a; interface i { use a:b/i.{t}; }",
         ],
+        &[],
         "| 0 cycle 31+3",
     ),
 ];
-
-/// What was found in place of what a row expects, of each row where that differs.
-fn differences(alloc: Global, rows: &[Row]) -> Result<String, AllocError> {
-    let mut all = String::new(alloc);
-    for (texts, expected) in rows {
-        let found = all_declared(alloc, texts)?;
-        if found.as_str() != *expected {
-            all.push_str(found.as_str())?;
-            all.push('\n')?;
-        }
-    }
-    Ok(all)
-}
-
-#[test]
-fn faulty_texts_have_their_first_faults(rt: HostRuntime) -> Result<(), Fail> {
-    let found = differences(rt.alloc(), &FAULTY)?;
-    assert!(rt; found.is_empty(), "{found}");
-    Ok(())
-}
-
-#[test]
-fn each_cycle_is_a_fault_once(rt: HostRuntime) -> Result<(), Fail> {
-    let found = differences(rt.alloc(), &CYCLES)?;
-    assert!(rt; found.is_empty(), "{found}");
-    Ok(())
-}

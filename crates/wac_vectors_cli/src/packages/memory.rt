@@ -1,6 +1,6 @@
 //! Declaring where a request for memory fails: it ends well whichever request `rt try --test --fail-alloc N` makes fail.
 
-use crate::shown::{all_declared, declared};
+use crate::packages::shown::{all_declared, declared};
 use std::alloc::AllocError;
 use std::test::Fail;
 

@@ -1,11 +1,6 @@
 //! Texts in any order: each package is made after those that it mentions.
 
-use crate::shown::declared;
-use std::alloc::{AllocError, Global};
-use std::test::Fail;
-
-/// Texts, and the keys of the packages in the order in which they are made.
-type Row = (&'static [&'static str], &'static str);
+use crate::packages::rows::Row;
 
 const LOW: &str = "package a:low; interface i { type t = u8; }";
 
@@ -13,16 +8,17 @@ const MIDDLE: &str = "package a:middle; interface j { use a:low/i.{t}; }";
 
 const HIGH: &str = "package a:high; world w { import a:middle/j; import a:low/i; }";
 
-static ROWS: [Row; 11] = [
-    (&[], ""),
-    (&["package a:b;"], "a:b "),
-    (&[LOW, MIDDLE, HIGH], "a:low a:middle a:high "),
-    (&[HIGH, MIDDLE, LOW], "a:low a:middle a:high "),
-    (&[MIDDLE, HIGH, LOW], "a:low a:middle a:high "),
-    (&[HIGH, LOW, MIDDLE], "a:low a:middle a:high "),
+pub(crate) static ORDERS: [Row; 11] = [
+    (&[], &[], ""),
+    (&["package a:b;"], &[], "a:b "),
+    (&[LOW, MIDDLE, HIGH], &[], "a:low a:middle a:high "),
+    (&[HIGH, MIDDLE, LOW], &[], "a:low a:middle a:high "),
+    (&[MIDDLE, HIGH, LOW], &[], "a:low a:middle a:high "),
+    (&[HIGH, LOW, MIDDLE], &[], "a:low a:middle a:high "),
     // Of those that are ready the first is made first.
     (
         &["package c:d;", HIGH, "package a:b;", LOW, MIDDLE],
+        &[],
         "c:d a:b a:low a:middle a:high ",
     ),
     // Versions make packages of their own.
@@ -32,6 +28,7 @@ static ROWS: [Row; 11] = [
             "package a:b;",
             "package a:b@1.0.0-rc.1;",
         ],
+        &[],
         "a:b@1.0.0 a:b a:b@1.0.0-rc.1 ",
     ),
     (
@@ -40,6 +37,7 @@ static ROWS: [Row; 11] = [
             "package a:b@2.0.0; interface i { use c:d/j.{t}; }",
             "package a:b@1.0.0; interface i { type t = u8; }",
         ],
+        &[],
         "a:b@1.0.0 c:d a:b@2.0.0 ",
     ),
     (
@@ -47,6 +45,7 @@ static ROWS: [Row; 11] = [
             "package a:b; world w { include c:d/v; }",
             "package c:d; world v { }",
         ],
+        &[],
         "c:d a:b ",
     ),
     (
@@ -54,26 +53,7 @@ static ROWS: [Row; 11] = [
             "package a:b@2.0.0; interface i { use a:b/i@1.0.0.{t}; }",
             "package a:b@1.0.0;",
         ],
+        &[],
         "0 resolution 41+1",
     ),
 ];
-
-/// What was found in place of what a row expects, of each row where that differs.
-fn differences(alloc: Global, rows: &[Row]) -> Result<String, AllocError> {
-    let mut all = String::new(alloc);
-    for (texts, expected) in rows {
-        let found = declared(alloc, texts, &[])?;
-        if found.as_str() != *expected {
-            all.push_str(found.as_str())?;
-            all.push('\n')?;
-        }
-    }
-    Ok(all)
-}
-
-#[test]
-fn packages_are_made_after_those_that_they_mention(rt: HostRuntime) -> Result<(), Fail> {
-    let found = differences(rt.alloc(), &ROWS)?;
-    assert!(rt; found.is_empty(), "{found}");
-    Ok(())
-}

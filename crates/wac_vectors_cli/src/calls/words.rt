@@ -1,5 +1,5 @@
 // Calls of words, with ample room and with too little.
-use crate::rooms::{line, push_difference, room};
+use crate::calls::rooms::{line, push_difference, room};
 use std::alloc::{AllocError, Global};
 use std::test::Fail;
 use wac_calls::{Command, DEFAULT_LIMIT, Task, Word, call};
@@ -19,6 +19,7 @@ const FMT: Word = Word::Wac(Command::Fmt);
 /// A document with a character of two bytes, and a comment.
 const ACCENTED: &[u8] = b"/// \xC3\xA9\npackage a:b; // c";
 
+/// Texts fit, or are cut after a character.
 static WRITTEN: [Row; 12] = [
     Row {
         word: FMT,
@@ -94,6 +95,7 @@ static WRITTEN: [Row; 12] = [
     },
 ];
 
+/// Rejections have a place and a message.
 static REJECTED: [Row; 10] = [
     Row {
         word: FMT,
@@ -157,6 +159,7 @@ static REJECTED: [Row; 10] = [
     },
 ];
 
+/// First errors are lines of JSON.
 static ERRORS: [Row; 5] = [
     // A document that breaks no rule, and one that mentions a foreign package.
     Row {
@@ -221,22 +224,10 @@ fn differences(alloc: Global, rows: &[Row]) -> Result<String, AllocError> {
 }
 
 #[test]
-fn texts_fit_or_are_cut_after_a_character(rt: HostRuntime) -> Result<(), Fail> {
-    let found = differences(rt.alloc(), &WRITTEN)?;
-    assert!(rt; found.is_empty(), "{found}");
-    Ok(())
-}
-
-#[test]
-fn rejections_have_a_place_and_a_message(rt: HostRuntime) -> Result<(), Fail> {
-    let found = differences(rt.alloc(), &REJECTED)?;
-    assert!(rt; found.is_empty(), "{found}");
-    Ok(())
-}
-
-#[test]
-fn first_errors_are_lines_of_json(rt: HostRuntime) -> Result<(), Fail> {
-    let found = differences(rt.alloc(), &ERRORS)?;
-    assert!(rt; found.is_empty(), "{found}");
+fn words_leave_what_fits(rt: HostRuntime) -> Result<(), Fail> {
+    for rows in [WRITTEN.as_slice(), REJECTED.as_slice(), ERRORS.as_slice()] {
+        let found = differences(rt.alloc(), rows)?;
+        assert!(rt; found.is_empty(), "{found}");
+    }
     Ok(())
 }

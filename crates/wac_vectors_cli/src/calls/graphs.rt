@@ -1,5 +1,5 @@
 // Graphs, with packages that are handed over.
-use crate::rooms::{line, push_difference, room};
+use crate::calls::rooms::{line, push_difference, room};
 use std::alloc::{AllocError, Global};
 use std::test::Fail;
 use wac_calls::DEFAULT_LIMIT;
@@ -207,15 +207,10 @@ fn differences(alloc: Global, rows: &[Row]) -> Result<String, AllocError> {
 }
 
 #[test]
-fn graphs_are_shown(rt: HostRuntime) -> Result<(), Fail> {
-    let found = differences(rt.alloc(), &GRAPHS)?;
-    assert!(rt; found.is_empty(), "{found}");
-    Ok(())
-}
-
-#[test]
-fn no_graph_is_shown_of_others(rt: HostRuntime) -> Result<(), Fail> {
-    let found = differences(rt.alloc(), &REJECTED)?;
-    assert!(rt; found.is_empty(), "{found}");
+fn compositions_have_graphs_or_are_rejected(rt: HostRuntime) -> Result<(), Fail> {
+    for rows in [GRAPHS.as_slice(), REJECTED.as_slice()] {
+        let found = differences(rt.alloc(), rows)?;
+        assert!(rt; found.is_empty(), "{found}");
+    }
     Ok(())
 }
