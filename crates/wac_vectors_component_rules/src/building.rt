@@ -1,12 +1,9 @@
-//! Tables built by hand, as packages whose definitions are compared.
+//! Types that are added to a table by hand.
 
 use indexmap::IndexMap;
 use std::alloc::{AllocError, Global};
-use wac_component_rules::ComponentRules;
-use wac_graph_types::names::find;
 use wac_graph_types::{
-    DefinedType, FuncResults, FuncType, Interface, ItemKind, Package, PackageError, PrimitiveType,
-    Rules, Types, ValueType, World,
+    DefinedType, FuncResults, FuncType, Interface, ItemKind, PrimitiveType, Types, ValueType, World,
 };
 
 pub const BYTE: ValueType = ValueType::Primitive(PrimitiveType::U8);
@@ -86,28 +83,3 @@ pub fn component(
     let world = world(alloc, imports, exports)?;
     Ok(ItemKind::Component(types.add_world(world)?))
 }
-
-/// A package of these types that defines these kinds, and imports and exports nothing.
-pub fn package(
-    alloc: Global,
-    mut types: Types,
-    kinds: &[(&str, ItemKind)],
-) -> Result<Package, PackageError> {
-    let world = types.add_world(world(alloc, &[], &[])?)?;
-    let instance = types.add_interface(interface(alloc, &[])?)?;
-    let definitions = named(alloc, kinds)?;
-    Package::new(types, world, instance, definitions)
-}
-
-/// Whether one definition of a package may stand where another is expected. `None` where there are no such.
-pub fn fits(package: &Package, a: &str, b: &str) -> Option<bool> {
-    let types = package.types();
-    let definitions = package.definitions();
-    let first = find(definitions, a)?;
-    let second = find(definitions, b)?;
-    let rules = ComponentRules::new(*definitions.allocator());
-    Some(rules.subtype(types, first, second).is_ok())
-}
-
-/// A pair of definitions, and whether the first fits the second.
-pub type Row = (&'static str, &'static str, bool);

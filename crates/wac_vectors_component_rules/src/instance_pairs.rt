@@ -47,6 +47,11 @@ static EXPORTS: &[Row] = &[
     ),
     (
         Of::Types,
+        "interface a { g: func(x: char); f: func(x: u8); } interface b { f: func(x: u8); g: func(x: char); }",
+        "",
+    ),
+    (
+        Of::Types,
         "interface a { f: func(); g: func(); } interface b { f: func(); }",
         "at export `g`: expected no export of that name, found function",
     ),

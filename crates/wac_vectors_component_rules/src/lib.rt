@@ -10,8 +10,6 @@ mod building;
 #[cfg(test)]
 mod chain_paths;
 #[cfg(test)]
-mod chains;
-#[cfg(test)]
 mod choices;
 #[cfg(test)]
 mod definition;
@@ -21,8 +19,6 @@ mod function_pairs;
 mod generated;
 #[cfg(test)]
 mod instance_pairs;
-#[cfg(test)]
-mod items;
 #[cfg(test)]
 mod kinds;
 #[cfg(test)]
@@ -34,14 +30,10 @@ mod names;
 #[cfg(test)]
 mod pairs;
 #[cfg(test)]
-mod rows;
-#[cfg(test)]
 mod shapes;
 #[cfg(test)]
 mod tables;
 #[cfg(test)]
 mod value_pairs;
-#[cfg(test)]
-mod values;
 #[cfg(test)]
 mod versions;

@@ -183,59 +183,29 @@ fn hold(rt: &impl Abort, alloc: Global, rows: &[Row]) -> Result<(), Fail> {
     Ok(())
 }
 
-static INNER: &[Row] = &[
+static VALUES: &[Row] = &[
     (Link::List, "element", VALUE),
     (Link::Option, "element", VALUE),
-];
-
-#[test]
-fn lists_and_options(rt: HostRuntime) -> Result<(), Fail> {
-    hold(&rt, rt.alloc(), INNER)
-}
-
-static PARTS: &[Row] = &[
     (Link::Result, "ok", VALUE),
     (Link::Tuple, "element 1", VALUE),
-];
-
-#[test]
-fn results_and_tuples(rt: HostRuntime) -> Result<(), Fail> {
-    hold(&rt, rt.alloc(), PARTS)
-}
-
-static NAMED: &[Row] = &[
     (Link::Record, "field `a`", VALUE),
     (Link::Variant, "case `a`", VALUE),
-];
-
-#[test]
-fn records_and_variants(rt: HostRuntime) -> Result<(), Fail> {
-    hold(&rt, rt.alloc(), NAMED)
-}
-
-static ALIASES: &[Row] = &[
     (Link::Alias, "", "expected char, found u8"),
-    (Link::Resource, "", "expected own `char`, found own `u8`"),
 ];
 
 #[test]
-fn aliases_of_types_and_of_resources(rt: HostRuntime) -> Result<(), Fail> {
-    hold(&rt, rt.alloc(), ALIASES)
+fn types_of_values(rt: HostRuntime) -> Result<(), Fail> {
+    hold(&rt, rt.alloc(), VALUES)
 }
 
-static INSTANCES: &[Row] = &[
+static ITEMS: &[Row] = &[
+    (Link::Resource, "", "expected own `char`, found own `u8`"),
     (Link::Instance, "export `a`", PARAMETER),
     (Link::InstanceType, "export `a`", PARAMETER),
+    (Link::Component, "import `a`", PARAMETER),
 ];
 
 #[test]
-fn instances_and_interfaces(rt: HostRuntime) -> Result<(), Fail> {
-    hold(&rt, rt.alloc(), INSTANCES)
-}
-
-static COMPONENTS: &[Row] = &[(Link::Component, "import `a`", PARAMETER)];
-
-#[test]
-fn components(rt: HostRuntime) -> Result<(), Fail> {
-    hold(&rt, rt.alloc(), COMPONENTS)
+fn resources_instances_and_components(rt: HostRuntime) -> Result<(), Fail> {
+    hold(&rt, rt.alloc(), ITEMS)
 }

@@ -1,16 +1,22 @@
-//! Modules and types of modules, which no document declares.
+//! Modules and types of modules, values beside their types, and instances beside theirs, which no document declares.
 
+use crate::building::BYTE;
 use crate::tables::{NAMES, fits, package_of};
 use std::alloc::{AllocError, Global};
 use std::test::Fail;
-use wac_graph_types::{ItemKind, ModuleTypeId, Package, Type, Types};
+use wac_graph_types::{InterfaceId, ItemKind, ModuleTypeId, Package, Type, Types};
 
-/// A module and a type of modules of each of two numbers.
-const ITEMS: [ItemKind; 4] = [
+/// A module and a type of modules of each of two numbers; a value and an instance, each with its type. The table has one
+/// interface.
+const ITEMS: [ItemKind; 8] = [
     ItemKind::Module(ModuleTypeId(0)),
     ItemKind::Module(ModuleTypeId(1)),
     ItemKind::Ty(Type::Module(ModuleTypeId(0))),
     ItemKind::Ty(Type::Module(ModuleTypeId(1))),
+    ItemKind::Value(BYTE),
+    ItemKind::Ty(Type::Value(BYTE)),
+    ItemKind::Instance(InterfaceId(0)),
+    ItemKind::Ty(Type::Interface(InterfaceId(0))),
 ];
 
 /// Whether one of the items fits itself, and no other one.
@@ -24,7 +30,7 @@ fn fits_itself(alloc: Global, package: &Package, a: usize) -> Result<bool, Alloc
 }
 
 #[test]
-fn modules_have_numbers(rt: HostRuntime) -> Result<(), Fail> {
+fn items_are_no_types_and_modules_have_numbers(rt: HostRuntime) -> Result<(), Fail> {
     let alloc = rt.alloc();
     match package_of(alloc, Types::new(alloc), &ITEMS) {
         Err(_) => assert!(rt; false, "the items make no package"),

@@ -32,6 +32,11 @@ static PLAIN: &[Row] = &[
     ),
     (
         Of::Types,
+        "type c = u8; type d = c; type a = list<d>; type b = list<char>;",
+        "at element: expected char, found u8",
+    ),
+    (
+        Of::Types,
         "type a = list<u8>; type b = list<s8>;",
         "at element: expected s8, found u8",
     ),
