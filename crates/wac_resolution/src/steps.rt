@@ -1,7 +1,8 @@
 //! Resolving, step by step: the statements, then the target.
-ghost use Rattle.std.specs.Prelude.{IfOk, map, option_map};
+ghost use Rattle.std.specs.Prelude.{◌≡◌, IfOk, OnOk, map, option_map};
 ghost use Rattle.wac_ast.specs.Statements.{statement_of};
 ghost use Rattle.wac_ast_base.specs.Names.{package_path_of};
+ghost use Rattle.wac_graph.specs.Graph.{empty};
 ghost use Rattle.wac_resolution_rules.specs.Errors.{ErrorSays};
 ghost use Rattle.wac_resolution_rules.specs.Given.{rules_of};
 ghost use Rattle.wac_resolution.specs.Steps.{Composed, Breaks};
@@ -18,12 +19,34 @@ use wac_resolution_nodes::Root;
 use wac_resolution_paths::Context;
 use wac_resolution_state::State;
 
-/// The graph of statements, which the target allows if there is one.
-pub(crate) fn composed<'a, R: Rules>(
-    alloc: Global,
+/// Executes the statements in an empty graph, and checks the target if there is one.
+fn compose_in<'a, R: Rules>(
+    state: &mut State,
     context: &Context<'_>,
     rules: &R,
     statements: Statements<'_, 'a>,
+    targets: &Option<PackagePath<'_>>,
+) -> Result<(), Error>
+    requires { state.old.graph ≡ empty }
+    ensures ok { OnOk result (Composed context.now (rules_of R.Rules rules.now) (map statement_of statements.entry)
+        (option_map package_path_of targets.now) state.new.graph) }
+    ensures err { ErrorSays result (λ e. Breaks context.now (rules_of R.Rules rules.now)
+        (map statement_of statements.entry) (option_map package_path_of targets.now) e) }
+{
+    let mut root: Root<'a> = Root::new(state.alloc);
+    let mut externs = Externs::new(state.alloc);
+    match carry_out(state, context, rules, &mut root, &mut externs, statements) {
+        Ok(()) => check_targets(state, context, rules, &root, &externs, targets),
+        Err(error) => Err(error),
+    }
+}
+
+/// The graph of statements, which the target allows if there is one.
+pub(crate) fn composed<R: Rules>(
+    alloc: Global,
+    context: &Context<'_>,
+    rules: &R,
+    statements: Statements<'_, '_>,
     targets: &Option<PackagePath<'_>>,
 ) -> Result<CompositionGraph, Error>
     ensures ok { IfOk result (λ g. Composed context.now (rules_of R.Rules rules.now) (map statement_of statements.entry)
@@ -33,16 +56,8 @@ pub(crate) fn composed<'a, R: Rules>(
 {
     let graph = CompositionGraph::new(alloc);
     let mut state = State { alloc, graph };
-    let mut root: Root<'a> = Root::new(alloc);
-    let mut externs = Externs::new(alloc);
-    carry_out(
-        &mut state,
-        context,
-        rules,
-        &mut root,
-        &mut externs,
-        statements,
-    )?;
-    check_targets(&mut state, context, rules, &root, &externs, targets)?;
-    Ok(state.graph)
+    match compose_in(&mut state, context, rules, statements, targets) {
+        Ok(()) => Ok(state.graph),
+        Err(error) => Err(error),
+    }
 }
