@@ -9,7 +9,7 @@ use Rattle.wac_resolution_rules.specs.BrokenTypes.{IsUndefined, FuncBroken}
 use Rattle.wac_resolution_rules.specs.Paths.{LeadsTo}
 use Rattle.wac_resolution_rules.specs.Types.{IsFunc}
 use Rattle.wac_resolution_worlds.specs.Referred.{NewFunc}
-use Rattle.wac_resolution.specs.ImportTypes.{ImportMade, ImportTypeBreaks}
+use Rattle.wac_resolution.specs.ImportTypes.{FuncMade, FuncTypeBreaks, ImportMade, ImportTypeBreaks}
 
 module _ (context : Context) (old : Parts) (root : Root) (agrees : Agrees old root) where
   -- what holds in the scope of the code holds at root
@@ -18,13 +18,16 @@ module _ (context : Context) (old : Parts) (root : Root) (agrees : Agrees old ro
 
   -- ---- kinds
 
-  pub func_imported : (new : Parts) (x : ImportType) (f : FuncType) (id : FuncTypeId) → x ≡ ImportType.func f → AllSupplied (packages_in context) old → NewFunc old new (values_of root.kinds) f id → ImportMade context old new root x (kinds.Func id)
+  func_imported : (new : Parts) (x : ImportType) (f : FuncType) (id : FuncTypeId) → x ≡ ImportType.func f → AllSupplied (packages_in context) old → NewFunc old new (values_of root.kinds) f id → ImportMade context old new root x (kinds.Func id)
   func_imported new x f id is held h = subst (λ (y : ImportType). ImportMade context old new root y (kinds.Func id)) (sym is) (record {
     grows = grows_expands old new h.grows.grows;
     supplied = handed_grown (packages_in context) old new h.grows.grows held;
     named = h.named;
     is = λ naming rules. (entry_means naming new id.0, at_root naming (λ (s : Scope). IsFunc s f (entry_means naming new id.0)) (h.is naming), refl, h.grows.count);
   })
+
+  pub func_kind_imported : (new : Parts) (x : ImportType) (f : FuncType) (k : ItemKind) → x ≡ ImportType.func f → AllSupplied (packages_in context) old → FuncMade old new root f k → ImportMade context old new root x k
+  func_kind_imported new x f k is held made = subst (λ (j : ItemKind). ImportMade context old new root x j) (sym made.1.0) (func_imported new x f made.0 is held made.1.1)
 
   -- an interface that is written in place
   pub inline_imported : (new : Parts) (x : ImportType) (i : InlineInterface) (id : InterfaceId) → x ≡ ImportType.interface i → InterfaceMade context old new (values_of root.kinds) None i.items id → ImportMade context old new root x (kinds.Instance id)
@@ -58,7 +61,7 @@ module _ (context : Context) (old : Parts) (root : Root) (agrees : Agrees old ro
 
   -- ---- errors
 
-  pub func_breaks : (x : ImportType) (f : FuncType) (e : Error) → x ≡ ImportType.func f → ((naming : Naming) → FuncBroken funcs.Free (scope_of naming old (values_of root.kinds)) [] f e) → ImportTypeBreaks context old root x e
+  pub func_breaks : (x : ImportType) (f : FuncType) (e : Error) → x ≡ ImportType.func f → FuncTypeBreaks old root f e → ImportTypeBreaks context old root x e
   func_breaks x f e is h = subst (λ (y : ImportType). ImportTypeBreaks context old root y e) (sym is) (λ naming rules. at_root naming (λ (s : Scope). FuncBroken funcs.Free s [] f e) (h naming))
 
   pub inline_breaks : (x : ImportType) (i : InlineInterface) (e : Error) → x ≡ ImportType.interface i
