@@ -1,9 +1,9 @@
 -- What is right with the packages that are mentioned is right with all that were supplied.
-use Rattle.wac_resolution.proofs.Common.{◌≡◌, ◌∙◌, ◌↔◌, ℕ, List, [], ◌∷◌, filter, Some, Result, Ok, Err, Bool, true, false, cond, inl, inr, refl, sym, ap, subst, AllByRecursion, PackageParts, Named, version_text, document_of, PackageKey, Parts, Naming, HeldPackage, Key, key_of, same_key, Contents, Packages, contents_in, contents_of, handed, package_of, Error, Composition, Given, Rules, IsMentioned, Mention, given_over, is_mentioned, kept, mentions, Describes, FirstClause, FirstFailing, GraphClause, OnlyClause, given_to, AllSupplied, IsSuppliedAs, AreFirst, OnlyTheseMatter}
+use Rattle.wac_resolution.proofs.Common.{◌≡◌, ◌∙◌, ◌↔◌, ℕ, List, [], ◌∷◌, filter, Some, Result, Ok, Err, Bool, true, false, cond, inl, inr, refl, sym, ap, subst, AllByRecursion, PackageParts, Named, version_text, PackageKey, Parts, Naming, HeldPackage, Key, key_of, same_key, Contents, Packages, contents_in, contents_of, handed, package_of, Error, Composition, Given, Rules, IsMentioned, Mention, given_over, is_mentioned, kept, mentions, Describes, FirstClause, FirstFailing, GraphClause, OnlyClause, given_to, AllSupplied, IsSuppliedAs, OnlyTheseMatter}
 use Rattle.wac_ast_grammar.specs.Tree.{Document}
-use Rattle.wac_ast.specs.declared.document.Document.{Document as CodeDocument}
 use Rattle.wac_graph.proofs.Keys.{keys_same}
 use Rattle.wac_resolution_errors.specs.declared.error.Error.{Error as CodeError}
+use Rattle.wac_resolution.specs.Resolves.{IsKept}
 use Rattle.wac_resolution.specs.Resolved.{HoldsMentioned, HoldsSupplied, Promised, Resolved, by_key, returned, call}
 
 -- ---- what is kept
@@ -50,18 +50,6 @@ found_in_all ms key (e ∷ es) p h = go (is_mentioned ms e.0) (same_key key e.0)
     go false true m s found later = (let there : IsMentioned ms key = found_mentioned ms key es p found in let same : is_mentioned ms key ≡ is_mentioned ms e.0 = ap (is_mentioned ms) (keys_same key e.0 s) in absurd cc)
 
 -- ---- a document
-
--- the packages that are kept are those of the first mentions, and no others matter to the document
-pub record IsKept (doc : Document) (packages others : List (PackageKey × PackageParts)) : Type 0 where
-  pub these : List Mention
-  pub first : AreFirst (mentions doc) these
-  pub matter : OnlyTheseMatter doc these
-  pub are : by_key others ≡ kept these (by_key packages)
-
--- what was kept for a borrowed document
-pub kept_for : (lent doc : CodeDocument) (packages others : List (PackageKey × PackageParts)) (these : List Mention) → lent ≡ doc → AreFirst (mentions (document_of lent)) these → OnlyTheseMatter (document_of lent) these
-    → by_key others ≡ kept these (by_key packages) → IsKept (document_of doc) packages others
-kept_for lent doc packages others these same first matter are = subst (λ (d : CodeDocument). IsKept (document_of d) packages others) same (record { these = these; first = first; matter = matter; are = are })
 
 -- any naming serves, since keys do not depend on it
 some_naming : Naming

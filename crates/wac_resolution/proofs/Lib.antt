@@ -8,3 +8,4 @@ pub mod Alike
 pub mod Starting
 pub mod Ending
 pub mod Kept
+pub mod Resolving

@@ -24,6 +24,11 @@ pub record Resolved : Type 0 where
   pub document : CodeDocument
   pub graph : Parts
 
+-- a graph that is returned for a document, with that document
+abbrev pub in_resolution : CodeDocument → Result Parts Error → Result Resolved Error
+in_resolution document (Ok g) = Ok (record { document = document; graph = g })
+in_resolution document (Err e) = Err e
+
 -- the supplied packages, by key
 abbrev pub by_key : List (PackageKey × PackageParts) → List (Key × PackageParts)
 by_key packages = map (λ e. (key_of e.0, e.1)) packages

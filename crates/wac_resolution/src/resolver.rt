@@ -6,7 +6,8 @@ ghost use Rattle.wac_resolution_mentions.specs.Packages.{AreFirst, OnlyTheseMatt
 ghost use Rattle.wac_resolution_rules.specs.Given.{rules_of};
 ghost use Rattle.wac_resolution_rules.specs.Mentions.{mentions};
 ghost use Rattle.wac_resolution.specs.Layout.{IgnoresLayout};
-ghost use Rattle.wac_resolution.specs.Resolved.{HoldsMentioned, HoldsSupplied, IsDescribed, IsFirstFault, IsReturned, call};
+ghost use Rattle.wac_resolution.specs.Resolved.{HoldsMentioned, HoldsSupplied, IsDescribed, IsFirstFault, IsReturned, call, in_resolution};
+ghost use Rattle.wac_resolution.specs.Resolves.{IsKept, Resolves, ResolvesOver};
 
 use crate::context::context;
 use crate::keeping::keep_mentioned;
@@ -17,8 +18,9 @@ use std::alloc::{AllocError, Global};
 use std::marker::Model;
 use wac_ast::Document;
 use wac_ast::internals::Statements;
-use wac_graph::{Package, PackageKey, Rules};
+use wac_graph::{CompositionGraph, Package, PackageKey, Rules};
 use wac_lexer::SourceSpan;
+use wac_resolution_errors::Error;
 use wac_resolution_mentions::packages;
 
 /// A resolver of one document.
@@ -61,29 +63,53 @@ impl<'d, 'a> AstResolver<'d, 'a> {
         packages(alloc, document)
     }
 
-    /// Resolves the document with all of these packages.
-    fn resolve_with<R: Rules>(
+    /// Those of the packages that the document mentions. The others are dropped.
+    fn mentioned_packages(
+        self,
+        alloc: Global,
+        packages: IndexMap<PackageKey, Package>,
+    ) -> Result<IndexMap<PackageKey, Package>, AllocError>
+        ensures { IfOk result (λ kept. IsKept (document_of self.entry) packages.entries kept.entries) }
+    {
+        match self.first_mentions(alloc) {
+            Ok(mentioned) => Ok(keep_mentioned(packages, &mentioned)),
+            Err(error) => Err(error),
+        }
+    }
+
+    /// The graph of the document with all of these packages.
+    fn graph_over<R: Rules>(
+        self,
+        alloc: Global,
+        packages: &IndexMap<PackageKey, Package>,
+        rules: &R,
+    ) -> ResolutionResult<CompositionGraph>
+        ensures { ResolvesOver packages.now.entries (rules_of R.Rules rules.now) (document_of self.entry)
+            (in_resolution self.entry result) }
+    {
+        let document = self.document;
+        let directive = &document.directive;
+        let context = context(directive, packages);
+        let statements = Statements {
+            all: &document.statements,
+        };
+        composed(alloc, &context, rules, statements, &directive.targets)
+    }
+
+    /// The graph of the document, as `resolve` gives it in a resolution.
+    fn resolve_graph<R: Rules>(
         self,
         alloc: Global,
         packages: IndexMap<PackageKey, Package>,
         rules: &R,
-    ) -> ResolutionResult<Resolution<'d, 'a>>
-        ensures document { IfOk result (λ r. r.document ≡ self.entry) }
-        ensures supplied { IfOk result (λ r. HoldsSupplied packages.entries r.graph) }
-        ensures graph { IsDescribed
-            (call packages.entries (rules_of R.Rules rules.now) (document_of self.entry) result) }
-        ensures only { IsReturned (call packages.entries (rules_of R.Rules rules.now) (document_of self.entry) result) }
-        ensures first { IsFirstFault
-            (call packages.entries (rules_of R.Rules rules.now) (document_of self.entry) result) }
+    ) -> ResolutionResult<CompositionGraph>
+        ensures { Resolves packages.entries (rules_of R.Rules rules.now) self.entry (in_resolution self.entry result) }
     {
         let document = self.document;
-        let directive = &document.directive;
-        let context = context(directive, &packages);
-        let statements = Statements {
-            all: &document.statements,
-        };
-        let graph = composed(alloc, &context, rules, statements, &directive.targets)?;
-        Ok(Resolution::new(document, graph))
+        match AstResolver::new(document).mentioned_packages(alloc, packages) {
+            Ok(kept) => AstResolver::new(document).graph_over(alloc, &kept, rules),
+            Err(error) => Err(Error::Memory(error)),
+        }
     }
 
     /// Resolves the document with packages and rules.
@@ -114,8 +140,10 @@ impl<'d, 'a> AstResolver<'d, 'a> {
         ensures layout { IgnoresLayout
             (call packages.entries (rules_of R.Rules rules.now) (document_of self.entry) result) }
     {
-        let mentioned = AstResolver::new(self.document).first_mentions(alloc)?;
-        let kept = keep_mentioned(packages, &mentioned);
-        self.resolve_with(alloc, kept, rules)
+        let document = self.document;
+        match AstResolver::new(document).resolve_graph(alloc, packages, rules) {
+            Ok(graph) => Ok(Resolution::new(document, graph)),
+            Err(error) => Err(error),
+        }
     }
 }
