@@ -5,8 +5,7 @@ ghost use Rattle.wac_resolution_mentions.specs.Noted.{mentions_in};
 ghost use Rattle.wac_resolution_mentions.specs.Packages.{AreFirst, OnlyTheseMatter};
 ghost use Rattle.wac_resolution_rules.specs.Given.{rules_of};
 ghost use Rattle.wac_resolution_rules.specs.Mentions.{mentions};
-ghost use Rattle.wac_resolution.specs.Layout.{IgnoresLayout};
-ghost use Rattle.wac_resolution.specs.Resolved.{HoldsMentioned, HoldsSupplied, IsDescribed, IsFirstFault, IsReturned, call, in_resolution};
+ghost use Rattle.wac_resolution.specs.Resolved.{in_resolution};
 ghost use Rattle.wac_resolution.specs.Resolves.{IsKept, Resolves, ResolvesOver};
 
 use crate::context::context;
@@ -122,23 +121,8 @@ impl<'d, 'a> AstResolver<'d, 'a> {
         packages: IndexMap<PackageKey, Package>,
         rules: &R,
     ) -> ResolutionResult<Resolution<'d, 'a>>
-        // It is the document's resolution.
-        ensures document { IfOk result (λ r. r.document ≡ self.entry) }
-        // The graph holds no package that the document doesn't mention.
-        ensures held { IfOk result (λ r. HoldsMentioned (mentions (document_of self.entry)) r.graph) }
-        // Each package that the graph holds has there the world, the instance and the definitions that were supplied under its key.
-        ensures supplied { IfOk result (λ r. HoldsSupplied packages.entries r.graph) }
-        // The graph that is returned is described, with the names that the document binds.
-        ensures graph { IsDescribed
-            (call packages.entries (rules_of R.Rules rules.now) (document_of self.entry) result) }
-        // What is described is returned, unless memory runs out.
-        ensures only { IsReturned (call packages.entries (rules_of R.Rules rules.now) (document_of self.entry) result) }
-        // An error names a rule that the first failing statement breaks, unless memory runs out.
-        ensures first { IsFirstFault
-            (call packages.entries (rules_of R.Rules rules.now) (document_of self.entry) result) }
-        // It is equally right for each document with the same bare tree: layout carries no meaning.
-        ensures layout { IgnoresLayout
-            (call packages.entries (rules_of R.Rules rules.now) (document_of self.entry) result) }
+        // It is the resolution that the document describes, or the first rule that it breaks, unless memory runs out.
+        ensures { Resolves packages.entries (rules_of R.Rules rules.now) self.entry result }
     {
         let document = self.document;
         match AstResolver::new(document).resolve_graph(alloc, packages, rules) {

@@ -6,13 +6,13 @@ use Rattle.wac_graph.specs.Node.{Node as GraphNode, arguments_in}
 use Rattle.wac_graph.specs.Origin.{Naming}
 use Rattle.wac_graph.specs.declared.package_key.PackageKey.{PackageKey}
 use Rattle.wac_graph_types.specs.Package.{PackageParts}
-use Rattle.wac_graph_types.specs.Scope.{Named}
-use Rattle.wac_resolution.specs.Resolved.{Resolved, Promised, call}
+use Rattle.wac_resolution.specs.Resolved.{Resolved}
+use Rattle.wac_resolution.specs.Resolves.{Resolves}
 use Rattle.wac_resolution_errors.specs.Error.{memory}
 use Rattle.wac_resolution_errors.specs.Told.{told}
 use Rattle.wac_resolution_errors.specs.declared.error.Error.{Error}
 use Rattle.wac_resolution_errors.specs.declared.error.Error.TheVariants as errors
-use Rattle.wac_resolution_rules.specs.ResolvedDocument.{FirstFailing, EveryNaming, GraphClause, FirstClause}
+use Rattle.wac_resolution_rules.specs.ResolvedDocument.{FirstFailing, EveryNaming}
 use Rattle.wac_resolution_nodes.specs.Nodes.{composition_of, node_of}
 use Rattle.wac_tool_graphs.specs.Lines.{node_line, node_lines, argument_lines, export_lines, graph_lines}
 use Rattle.wac_tool_graphs.specs.Alone.{alone, same_rules}
@@ -59,16 +59,18 @@ is_error document e NotUtf8 first is = absurd is
 -- ---- what resolving returns where no package is supplied
 
 -- The graph is the document's.
-pub is_graph : (packages : List (PackageKey × PackageParts)) (document : Document) (r : Resolved) (g : Parts) → packages ≡ [] → g ≡ r.graph
-    → ((declared : Named ℕ) × Promised GraphClause (call packages same_rules document (Ok r)) declared) → IsGraphOf document g
-is_graph packages document r g none same has =
-    subst (λ x. IsGraphOf document x) (sym same) (subst (λ ps. (declared : Named ℕ) × Promised GraphClause (call ps same_rules document (Ok r)) declared) none has)
+pub is_graph : (packages : List (PackageKey × PackageParts)) (document : CodeDocument) (r : Resolved) (g : Parts) → packages ≡ [] → g ≡ r.graph
+    → Resolves packages same_rules document (Ok r) → IsGraphOf (document_of document) g
+is_graph packages document r g none same resolves =
+    let alone : Resolves [] same_rules document (Ok r) = subst (λ ps. Resolves ps same_rules document (Ok r)) none resolves in
+    subst (λ x. IsGraphOf (document_of document) x) (sym same) alone.graph
 
 -- The error names a rule that the document breaks.
-pub is_rejected : (packages : List (PackageKey × PackageParts)) (document : Document) (e : Error) (answer : RunError) → packages ≡ []
-    → ((declared : Named ℕ) → Promised FirstClause (call packages same_rules document (Err e)) declared) → IsRejection e answer → IsErrorOf document answer
-is_rejected packages document e answer none first is =
-    is_error document e answer (subst (λ ps. (declared : Named ℕ) → Promised FirstClause (call ps same_rules document (Err e)) declared) none first []) is
+pub is_rejected : (packages : List (PackageKey × PackageParts)) (document : CodeDocument) (e : Error) (answer : RunError) → packages ≡ []
+    → Resolves packages same_rules document (Err e) → IsRejection e answer → IsErrorOf (document_of document) answer
+is_rejected packages document e answer none resolves is =
+    let alone : Resolves [] same_rules document (Err e) = subst (λ ps. Resolves ps same_rules document (Err e)) none resolves in
+    is_error (document_of document) e answer (alone.first []) is
 
 -- ---- of a source that has a document
 
