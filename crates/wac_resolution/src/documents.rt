@@ -1,5 +1,6 @@
 //! Resolving a document, in one call.
 ghost use Rattle.wac_resolution_rules.specs.Given.{rules_of};
+ghost use Rattle.wac_resolution.specs.Resolved.{in_resolution};
 ghost use Rattle.wac_resolution.specs.Resolves.{Resolves};
 
 use crate::resolution::{Resolution, ResolutionResult};
@@ -7,7 +8,7 @@ use crate::resolver::AstResolver;
 use indexmap::IndexMap;
 use std::alloc::Global;
 use wac_ast::Document;
-use wac_graph::{Package, PackageKey, Rules};
+use wac_graph::{CompositionGraph, Package, PackageKey, Rules};
 
 /// Resolves a document with the packages that it may mention and with rules.
 ///
@@ -28,4 +29,19 @@ pub fn resolve<'d, 'a, R: Rules>(
     ensures { Resolves packages.entries (rules_of R.Rules rules.now) document.now result }
 {
     AstResolver::new(document).resolve(alloc, packages, rules)
+}
+
+/// The graph that a document describes, for those who don't need the resolution that `resolve` returns.
+///
+/// The packages are dropped at the end, and the document and the rules stay as they are, as in `resolve`.
+pub fn resolve_graph<R: Rules>(
+    alloc: Global,
+    document: &Document<'_>,
+    packages: IndexMap<PackageKey, Package>,
+    rules: &R,
+) -> ResolutionResult<CompositionGraph>
+    // With the document beside it, the graph is the document's resolution, and an error is one of `resolve`.
+    ensures { Resolves packages.entries (rules_of R.Rules rules.now) document.now (in_resolution document.now result) }
+{
+    AstResolver::new(document).resolve_graph(alloc, packages, rules)
 }

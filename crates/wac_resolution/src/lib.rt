@@ -26,7 +26,7 @@ mod statements;
 mod steps;
 mod target;
 
-pub use documents::resolve;
+pub use documents::{resolve, resolve_graph};
 pub use laws::formatting_changes_no_graph;
 pub use resolution::{Resolution, ResolutionResult};
 pub use resolver::AstResolver;

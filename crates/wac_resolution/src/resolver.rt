@@ -96,7 +96,7 @@ impl<'d, 'a> AstResolver<'d, 'a> {
     }
 
     /// The graph of the document, as `resolve` gives it in a resolution.
-    fn resolve_graph<R: Rules>(
+    pub(crate) fn resolve_graph<R: Rules>(
         self,
         alloc: Global,
         packages: IndexMap<PackageKey, Package>,
