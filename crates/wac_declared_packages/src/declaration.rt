@@ -18,14 +18,7 @@ use wac_graph::{CompositionGraph, Package, PackageKey};
 use wac_graph_packages::{DefinitionsError, package_of};
 use wac_lexer::SourceSpan;
 use wac_printer::Page;
-use wac_resolution::{Resolution, resolve};
-
-/// The graph of a resolution. It is a function of its own for the prover's sake.
-fn graph_of(resolution: Resolution<'_, '_>) -> CompositionGraph
-    ensures { result ≡ resolution.entry.graph }
-{
-    resolution.into_graph()
-}
+use wac_resolution::resolve_graph;
 
 /// The graph of a document.
 fn resolved(
@@ -37,8 +30,8 @@ fn resolved(
     ensures err { IfErr result (IsUnresolved packages.entries (document_of page.entry)) }
 {
     let Page { document } = page;
-    match resolve(alloc, document, packages, &NoRules) {
-        Ok(resolution) => Ok(graph_of(resolution)),
+    match resolve_graph(alloc, document, packages, &NoRules) {
+        Ok(graph) => Ok(graph),
         Err(error) => Err(of_resolving(error)),
     }
 }

@@ -1,14 +1,12 @@
-use Rattle.wac_declared_packages.proofs.Common.{[], sym, subst, document_of}
+use Rattle.wac_declared_packages.proofs.Common.{[], subst, document_of}
 use Rattle.wac_ast.specs.declared.document.Document.{Document}
-use Rattle.wac_graph.specs.Graph.{Parts}
 use Rattle.wac_declared_packages.specs.Declaring.{IsGraphOf, IsUnresolved}
 use Rattle.wac_declared_packages.proofs.Refuses.{unresolved}
 use Rattle.wac_declared_packages.proofs.declaration.resolved.Goals as goal
 
 pub returns-in-Ok-clause-ok : goal.returns-in-Ok-clause-ok
 returns-in-Ok-clause-ok c =
-    subst (λ (d : Document). IsGraphOf c.args.packages.entries (document_of d) c.graph_of.result) c.page.view_is
-    (subst (λ (g : Parts). IsGraphOf c.args.packages.entries (document_of c.page.inside.document.now) g) (sym c.graph_of.ensures) c.in-Ok.ensures.graph)
+    subst (λ (d : Document). IsGraphOf c.args.packages.entries (document_of d) c.in-Ok.graph) c.page.view_is c.in-Ok.ensures.graph
 
 pub returns-in-Err-clause-err : goal.returns-in-Err-clause-err
 returns-in-Err-clause-err c =
