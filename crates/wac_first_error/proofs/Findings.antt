@@ -11,7 +11,7 @@ use Rattle.wac_comments_layout.specs.Nesting.{too_deep}
 use Rattle.wac_resolution_errors.specs.Told.{told}
 use Rattle.wac_resolution_errors.specs.declared.error.Error.{Error as ResolutionError}
 use Rattle.wac_resolution_errors.specs.declared.error.Error.TheVariants as resolution_errors
-use Rattle.wac_resolution_findings.specs.Mentioned.{mentions_foreign}
+use Rattle.wac_first_error.specs.Mentioned.{mentions_foreign}
 use Rattle.wac_tool_graphs.specs.Alone.{BreaksRule}
 use Rattle.wac_first_error.specs.Findings.{IsFault, IsFinding, IsResolved, IsRule}
 use Rattle.wac_first_error.specs.declared.finding.Finding.{Finding}

@@ -1,1 +1,3 @@
+pub mod Broken
 pub mod Findings
+pub mod Mentioned

@@ -9,7 +9,7 @@ use Rattle.wac_comments_layout.specs.Nesting.{too_deep}
 use Rattle.wac_resolution_errors.specs.Told.{told}
 use Rattle.wac_resolution_errors.specs.declared.error.Error.{Error}
 use Rattle.wac_resolution_errors.specs.declared.error.Error.TheVariants as errors
-use Rattle.wac_resolution_findings.specs.Mentioned.{mentions_foreign}
+use Rattle.wac_first_error.specs.Mentioned.{mentions_foreign}
 use Rattle.wac_tool_graphs.specs.Alone.{IsComposition}
 use Rattle.wac_diagnostics.specs.declared.diagnostic.Diagnostic.{Diagnostic}
 use Rattle.wac_error_diagnostics.specs.Diagnostics.{IsOfParsing, IsOfResolving}

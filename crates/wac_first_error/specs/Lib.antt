@@ -1,3 +1,4 @@
 pub mod Findings
+pub mod Mentioned
 pub mod Rules
 pub mod Verdicts

@@ -5,6 +5,7 @@ ghost use Rattle.wac_ast_base.specs.Error.{told_by};
 ghost use Rattle.wac_comments_layout.specs.Nesting.{too_deep};
 ghost use Rattle.wac_first_error.specs.Findings.{IsDepth, IsFault, IsFinding, IsResolved, IsRule};
 
+use crate::rules::{broken_rule, mentions_packages};
 use std::alloc::{AllocError, Global};
 use wac_ast::Document;
 use wac_ast_base::Error;
@@ -14,7 +15,6 @@ use wac_error_diagnostics::{nested_too_deep, parse_diagnostic, resolution_diagno
 use wac_lexer::SourceSpan;
 use wac_printer::Page;
 use wac_resolution_errors::Error as ResolutionError;
-use wac_resolution_findings::{broken_rule, mentions_packages};
 
 /// What a text is.
 #[derive(Drop)]

@@ -14,6 +14,7 @@
 
 mod finding;
 mod first;
+mod rules;
 mod tidying;
 
 pub use first::{Verdict, first_error};

@@ -6,7 +6,7 @@ use Rattle.wac_lexer.specs.Span.{Span}
 use Rattle.wac_resolution_rules.specs.Mentions.{Mention}
 use Rattle.wac_resolution_mentions.specs.FirstMentions.{first_mentions}
 use Rattle.wac_resolution_mentions.specs.Noted.{mentions_in}
-use Rattle.wac_resolution_findings.specs.Mentioned.{is_any}
+use Rattle.wac_first_error.specs.Mentioned.{is_any}
 
 pub any_mentioned : (es : List (PackageKey × Span)) (ms : List Mention) (empty : Bool) → mentions_in es ≡ first_mentions ms
     → (IsTrue empty ↔ (length es ≡ 0)) → not empty ≡ is_any ms

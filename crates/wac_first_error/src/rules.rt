@@ -4,7 +4,7 @@ ghost use Rattle.wac_ast.specs.Statements.{document_of};
 ghost use Rattle.wac_resolution_errors.specs.Told.{told};
 ghost use Rattle.wac_resolution_errors.specs.declared.error.Error.TheVariants.{Memory};
 ghost use Rattle.wac_tool_graphs.specs.Alone.{BreaksRule, IsComposition};
-ghost use Rattle.wac_resolution_findings.specs.Mentioned.{mentions_foreign};
+ghost use Rattle.wac_first_error.specs.Mentioned.{mentions_foreign};
 
 use indexmap::IndexMap;
 use std::alloc::{AllocError, Global};
@@ -14,7 +14,7 @@ use wac_resolution_mentions::packages;
 use wac_tool_graphs::SameRules;
 
 /// Whether a document mentions foreign packages. The error is that memory ran out.
-pub fn mentions_packages(alloc: Global, page: Page<'_, '_>) -> Result<bool, AllocError>
+pub(crate) fn mentions_packages(alloc: Global, page: Page<'_, '_>) -> Result<bool, AllocError>
     ensures { IfOk result (λ mentioned. mentioned ≡ mentions_foreign (document_of page.entry)) }
 {
     let Page { document } = page;
@@ -23,7 +23,7 @@ pub fn mentions_packages(alloc: Global, page: Page<'_, '_>) -> Result<bool, Allo
 }
 
 /// Which rule a document breaks first where no foreign package is there: its error, or that memory ran out.
-pub fn broken_rule(alloc: Global, page: Page<'_, '_>) -> ResolutionResult<()>
+pub(crate) fn broken_rule(alloc: Global, page: Page<'_, '_>) -> ResolutionResult<()>
     // It describes a composition.
     ensures composes { IfOk result (λ _. IsComposition (document_of page.entry)) }
     // The error names the first rule that it breaks.

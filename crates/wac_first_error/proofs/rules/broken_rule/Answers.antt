@@ -1,6 +1,6 @@
 use Rattle.std.proofs.Common.{sym}
-use Rattle.wac_resolution_findings.proofs.Broken.{breaks, composes}
-use Rattle.wac_resolution_findings.proofs.rules.broken_rule.Goals as goal
+use Rattle.wac_first_error.proofs.Broken.{breaks, composes}
+use Rattle.wac_first_error.proofs.rules.broken_rule.Goals as goal
 
 pub returns-in-Ok-clause-composes : goal.returns-in-Ok-clause-composes
 returns-in-Ok-clause-composes c =

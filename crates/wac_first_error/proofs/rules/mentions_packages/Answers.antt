@@ -1,8 +1,8 @@
 use Rattle.std.proofs.Common.{sym}
 use Rattle.wac_ast.specs.Statements.{document_of}
 use Rattle.wac_resolution_rules.specs.Mentions.{mentions}
-use Rattle.wac_resolution_findings.proofs.Mentioned.{any_mentioned}
-use Rattle.wac_resolution_findings.proofs.rules.mentions_packages.Goals as goal
+use Rattle.wac_first_error.proofs.Mentioned.{any_mentioned}
+use Rattle.wac_first_error.proofs.rules.mentions_packages.Goals as goal
 
 pub returns : goal.returns
 returns c =
