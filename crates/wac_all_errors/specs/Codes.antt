@@ -6,7 +6,7 @@ use Rattle.wac_lexer.specs.declared.error.Error.TheVariants.{UnexpectedToken}
 use Rattle.wac_ast_base.specs.Error.{Told, faulty, no_memory}
 use Rattle.wac_diagnostics.specs.Codes.{lexer_code}
 use Rattle.wac_resolution_errors.specs.Error.{Error, memory}
-use Rattle.wac_error_diagnostics.specs.Codes.{parse_code, resolution_code}
+use Rattle.wac_first_error.specs.Codes.{parse_code, resolution_code}
 
 -- of a text with a rejected character, or an item that isn't closed
 abbrev pub is_of_characters : List ℕ → Bool

@@ -1,7 +1,7 @@
 //! Which codes are those of texts that are no documents.
 //!
-//! They are listed here, and not beside the codes in `wac_error_diagnostics`, on which twenty-two crates stand that don't
-//! ask. That each error of parsing has one of them, and no error of resolving, is in specs/Codes.
+//! They are listed here, and not beside the codes in `wac_first_error`, on which many crates stand that don't ask. That
+//! each error of parsing has one of them, and no error of resolving, is in specs/Codes.
 ghost use Rattle.std.specs.Prelude.{◌≡◌};
 ghost use Rattle.wac_all_errors.specs.Codes.{is_fault, is_of_characters, is_of_grammar};
 

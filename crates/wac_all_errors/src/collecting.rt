@@ -7,8 +7,7 @@ use crate::first::{First, first_of};
 use crate::resolving::broken_rule;
 use std::alloc::{AllocError, Global};
 use wac_diagnostics::Diagnostic;
-use wac_error_diagnostics::{Reading, read_text};
-use wac_first_error::{Verdict, first_error};
+use wac_first_error::{Reading, Verdict, first_error, read_text};
 use wac_recovery::{Attempt, Round, first_round};
 
 /// The errors of what a file holds, at most so many, in the order in which they are found.

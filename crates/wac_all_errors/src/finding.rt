@@ -3,7 +3,7 @@ ghost use Rattle.wac_all_errors.specs.Telling.{SaysSame};
 
 use std::alloc::{AllocError, Global};
 use wac_diagnostics::Diagnostic;
-use wac_error_diagnostics::{nested_too_deep, parse_diagnostic};
+use wac_first_error::{nested_too_deep, parse_diagnostic};
 use wac_hints::{Edit, Hint, parse_hint};
 use wac_recovery::Fault;
 

@@ -3,7 +3,7 @@ use Rattle.std.specs.Prelude.{◌≡◌, ◌⊎◌, ℕ, List, [], ◌∷◌, �
 use Rattle.std.specs.declared.alloc.Global.{Global}
 use Rattle.wac_lexer.specs.Ascii.{line_feed}
 use Rattle.wac_diagnostics.specs.declared.diagnostic.Diagnostic.{Diagnostic}
-use Rattle.wac_error_diagnostics.specs.Reading.{IsNotUtf8, IsMarked}
+use Rattle.wac_first_error.specs.Reading.{IsNotUtf8, IsMarked}
 use Rattle.wac_first_error.specs.Findings.{IsOfText}
 use Rattle.wac_first_error.specs.Verdicts.{IsGood, IsUnresolved}
 use Rattle.wac_calls_answers.specs.declared.outcome.Outcome.{Outcome}

@@ -4,7 +4,7 @@ use Rattle.wac_lexer.specs.Span.{Span}
 use Rattle.wac_ast.specs.Document.{ErrorOf}
 use Rattle.wac_ast_base.specs.Error.{Told, no_memory}
 use Rattle.wac_ast_base.specs.Messages.{message_of}
-use Rattle.wac_error_diagnostics.specs.Diagnostics.{place_of}
+use Rattle.wac_first_error.specs.Diagnostics.{place_of}
 use Rattle.wac_calls_answers.specs.declared.outcome.Outcome.{Outcome}
 use Rattle.wac_calls_answers.specs.declared.outcome.Outcome.TheVariants.{Written, Rejected, NotUtf8, OutOfMemory, NestedTooDeep, BadPackage}
 

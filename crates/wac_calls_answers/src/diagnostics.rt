@@ -7,7 +7,7 @@ use crate::outcome::Outcome;
 use std::alloc::Global;
 use wac_ast_base::Error;
 use wac_diagnostics::Diagnostic;
-use wac_error_diagnostics::parse_diagnostic;
+use wac_first_error::parse_diagnostic;
 
 /// What a word comes to that rejects a text for an error of parsing.
 pub fn unparsed(alloc: Global, error: &Error) -> Outcome

@@ -9,7 +9,7 @@ use std::alloc::Global;
 use wac_calls_answers::{Answer, Outcome, rejected, tell, unparsed};
 use wac_calls_texts::{PackagesError, first_deeper, package_frames};
 use wac_declared_packages::DeclarationFault;
-use wac_error_diagnostics::resolution_diagnostic;
+use wac_first_error::resolution_diagnostic;
 use wac_lexer::SourceSpan;
 use wac_resolution::Error as ResolutionError;
 

@@ -5,7 +5,7 @@ use Rattle.wac_comments.specs.Tidied.{IsPlain, Kept, SameTree}
 use Rattle.wac_comments.specs.declared.options.LineEnd.{LineEnd}
 use Rattle.wac_comments.specs.declared.options.LineEnd.TheVariants as line_end
 use Rattle.wac_comments.specs.declared.options.Options.{Options}
-use Rattle.wac_error_diagnostics.specs.Reading.{begins_with_mark}
+use Rattle.wac_first_error.specs.Reading.{begins_with_mark}
 use Rattle.wac_cli.specs.declared.options.FormatOptions.{FormatOptions}
 use Rattle.wac_cli.specs.declared.options.LineEnds.{LineEnds}
 use Rattle.wac_cli.specs.declared.options.LineEnds.TheVariants.{Auto, Lf, CrLf}

@@ -8,8 +8,8 @@ use wac_cli_console::{Action, Console, Outcome, Report, Status};
 use wac_component_rules::ComponentRules;
 use wac_composition::{flat_text, graph_with};
 use wac_diagnostics::Diagnostic;
-use wac_error_diagnostics::{Reading, parse_diagnostic, resolution_diagnostic};
 use wac_files::FileSystem;
+use wac_first_error::{Reading, parse_diagnostic, resolution_diagnostic};
 use wac_graph_outputs::{Form, drawn};
 use wac_printer::Page;
 

@@ -4,8 +4,8 @@ ghost use Rattle.std.specs.Prelude.{◌≡◌};
 use std::alloc::{AllocError, Global};
 use std::io::Write;
 use wac_cli_console::{Console, Outcome, Report};
-use wac_error_diagnostics::Reading;
 use wac_files::{FileError, FileSystem, Found};
+use wac_first_error::Reading;
 use wac_package_errors::flat_text;
 
 /// What was read of a file.

@@ -1,7 +1,7 @@
 // What is said of the file that a command has to do.
 use crate::options::Setting;
 use std::alloc::AllocError;
-use wac_error_diagnostics::Reading;
+use wac_first_error::Reading;
 use wac_package_errors::{Composed, first_error_with, flat_text};
 
 /// The first error of bytes, which are resolved with known packages.

@@ -3,9 +3,9 @@ use Rattle.std.specs.Prelude.{◌≡◌, ℕ, ◌⊎◌, List, IsUtf8, None, Som
 use Rattle.wac_lexer.specs.Span.{Span}
 use Rattle.wac_comments_layout.specs.Nesting.{too_deep}
 use Rattle.wac_diagnostics.specs.declared.diagnostic.Diagnostic.{Diagnostic}
-use Rattle.wac_error_diagnostics.specs.Reading.{IsNotUtf8, IsMarked, SaysTooDeep}
-use Rattle.wac_error_diagnostics.specs.declared.reading.Reading.{Reading}
-use Rattle.wac_error_diagnostics.specs.declared.reading.Reading.TheVariants.{Text, Rejected}
+use Rattle.wac_first_error.specs.Reading.{IsNotUtf8, IsMarked, SaysTooDeep}
+use Rattle.wac_first_error.specs.declared.reading.Reading.{Reading}
+use Rattle.wac_first_error.specs.declared.reading.Reading.TheVariants.{Text, Rejected}
 
 -- brackets of the text are nested too deeply, and this is said of the first one
 abbrev pub IsTooDeep : List ℕ → Diagnostic → Type 0

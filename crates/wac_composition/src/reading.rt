@@ -4,7 +4,7 @@ ghost use Rattle.wac_composition.specs.Flat.{IsFlat, IsFlatText};
 
 use std::alloc::{AllocError, Global};
 use wac_comments_layout::too_deep;
-use wac_error_diagnostics::{Reading, nested_too_deep, read_text};
+use wac_first_error::{Reading, nested_too_deep, read_text};
 
 /// Reads bytes as a text that can be parsed. They are rejected where they aren't UTF-8, where they begin with a byte
 /// order mark, and where brackets are nested deeper than a thousand. The error is that memory ran out.

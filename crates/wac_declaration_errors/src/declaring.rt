@@ -7,7 +7,7 @@ use crate::wit::syntax_diagnostic;
 use std::alloc::{AllocError, Global};
 use wac_declared_packages::DeclarationError;
 use wac_diagnostics::Diagnostic;
-use wac_error_diagnostics::{parse_code, resolution_code, resolution_diagnostic};
+use wac_first_error::{parse_code, resolution_code, resolution_diagnostic};
 use wac_lexer::SourceSpan;
 use wac_resolution_errors::Error;
 

@@ -4,7 +4,7 @@ use crate::texts::text_at;
 use std::alloc::{AllocError, Global};
 use wac_ast::Error;
 use wac_diagnostics::Diagnostic;
-use wac_error_diagnostics::parse_diagnostic;
+use wac_first_error::parse_diagnostic;
 use wac_lexer::SourceSpan;
 
 /// What is said of a text that is no document. The help says where WAC isn't WIT.

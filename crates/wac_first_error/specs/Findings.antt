@@ -12,8 +12,8 @@ use Rattle.wac_resolution_errors.specs.declared.error.Error.TheVariants as error
 use Rattle.wac_first_error.specs.Mentioned.{mentions_foreign}
 use Rattle.wac_tool_graphs.specs.Alone.{IsComposition}
 use Rattle.wac_diagnostics.specs.declared.diagnostic.Diagnostic.{Diagnostic}
-use Rattle.wac_error_diagnostics.specs.Diagnostics.{IsOfParsing, IsOfResolving}
-use Rattle.wac_error_diagnostics.specs.Reading.{SaysTooDeep}
+use Rattle.wac_first_error.specs.Diagnostics.{IsOfParsing, IsOfResolving}
+use Rattle.wac_first_error.specs.Reading.{SaysTooDeep}
 use Rattle.wac_first_error.specs.Rules.{IsOfRule}
 use Rattle.wac_first_error.specs.declared.finding.Finding.{Finding}
 use Rattle.wac_first_error.specs.declared.finding.Finding.TheVariants as findings

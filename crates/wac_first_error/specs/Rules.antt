@@ -3,7 +3,7 @@ use Rattle.wac_ast_grammar.specs.Tree.{Document}
 use Rattle.wac_resolution_errors.specs.Error.{Error}
 use Rattle.wac_tool_graphs.specs.Alone.{BreaksRule}
 use Rattle.wac_diagnostics.specs.declared.diagnostic.Diagnostic.{Diagnostic}
-use Rattle.wac_error_diagnostics.specs.Diagnostics.{IsOfResolving}
+use Rattle.wac_first_error.specs.Diagnostics.{IsOfResolving}
 
 -- the diagnostic is that of the first rule that the document breaks
 abbrev pub IsOfRule : Document → Diagnostic → Type 0

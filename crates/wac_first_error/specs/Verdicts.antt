@@ -1,6 +1,6 @@
 -- What the first error of bytes says of them.
 use Rattle.std.specs.Prelude.{◌≡◌, ℕ, List, ◌⊎◌, Bool, false, IsUtf8}
-use Rattle.wac_error_diagnostics.specs.Reading.{begins_with_mark, IsNotUtf8, IsMarked}
+use Rattle.wac_first_error.specs.Reading.{begins_with_mark, IsNotUtf8, IsMarked}
 use Rattle.wac_first_error.specs.Findings.{IsFinding, IsOfText}
 use Rattle.wac_first_error.specs.declared.finding.Finding.TheVariants as findings
 use Rattle.wac_first_error.specs.declared.first.Verdict.{Verdict}

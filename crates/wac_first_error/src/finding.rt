@@ -5,13 +5,15 @@ ghost use Rattle.wac_ast_base.specs.Error.{told_by};
 ghost use Rattle.wac_comments_layout.specs.Nesting.{too_deep};
 ghost use Rattle.wac_first_error.specs.Findings.{IsDepth, IsFault, IsFinding, IsResolved, IsRule};
 
+use crate::parsing::parse_diagnostic;
+use crate::reading::nested_too_deep;
+use crate::resolving::resolution_diagnostic;
 use crate::rules::{broken_rule, mentions_packages};
 use std::alloc::{AllocError, Global};
 use wac_ast::Document;
 use wac_ast_base::Error;
 use wac_comments_layout::too_deep;
 use wac_diagnostics::Diagnostic;
-use wac_error_diagnostics::{nested_too_deep, parse_diagnostic, resolution_diagnostic};
 use wac_lexer::SourceSpan;
 use wac_printer::Page;
 use wac_resolution_errors::Error as ResolutionError;

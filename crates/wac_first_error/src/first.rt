@@ -1,12 +1,12 @@
 //! The first error of bytes.
 ghost use Rattle.std.specs.Prelude.{◌≡◌, IfOk, IsUtf8, false};
-ghost use Rattle.wac_error_diagnostics.specs.Reading.{begins_with_mark};
+ghost use Rattle.wac_first_error.specs.Reading.{begins_with_mark};
 ghost use Rattle.wac_first_error.specs.Verdicts.{IsVerdict};
 
 use crate::finding::{Finding, find};
+use crate::reading::{Reading, read_text};
 use std::alloc::{AllocError, Global};
 use wac_diagnostics::Diagnostic;
-use wac_error_diagnostics::{Reading, read_text};
 
 /// What bytes are.
 #[derive(Debug, Drop)]

@@ -1,8 +1,9 @@
 //! Diagnostics of the errors of tidying.
+use crate::parsing::parse_diagnostic;
+use crate::reading::nested_too_deep;
 use std::alloc::{AllocError, Global};
 use wac_comments::TidyError;
 use wac_diagnostics::Diagnostic;
-use wac_error_diagnostics::{nested_too_deep, parse_diagnostic};
 
 /// What is said of a text that could not be tidied. The error is that memory ran out.
 pub fn tidy_diagnostic(alloc: Global, error: &TidyError) -> Result<Diagnostic, AllocError> {

@@ -8,8 +8,8 @@ use std::alloc::{AllocError, Global};
 use std::collections::BTreeSet;
 use wac_component_packages::{ComponentFile, find_components};
 use wac_component_reading::{Converted, component_package};
-use wac_error_diagnostics::Reading;
 use wac_files::{FileError, FileSystem};
+use wac_first_error::Reading;
 use wac_graph::Package;
 use wac_package_errors::flat_text;
 

@@ -3,7 +3,7 @@ use crate::packages::Packages;
 use std::alloc::{AllocError, Global};
 use wac_composition_warnings::warnings_of;
 use wac_diagnostics::Diagnostic;
-use wac_error_diagnostics::Reading;
+use wac_first_error::Reading;
 use wac_package_errors::{
     Composed, KnownPackages, declaration_diagnostic, first_error_with, flat_text,
 };

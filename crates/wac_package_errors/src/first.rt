@@ -13,7 +13,7 @@ use wac_component_rules::ComponentRules;
 use wac_composition::graph_with;
 use wac_declaration_errors::{KnownPackages, end_of, syntax_diagnostic};
 use wac_diagnostics::Diagnostic;
-use wac_error_diagnostics::resolution_diagnostic;
+use wac_first_error::resolution_diagnostic;
 use wac_graph::{CompositionGraph, PackageKey};
 use wac_instantiations::find_instantiations;
 use wac_lexer::SourceSpan;

@@ -1,6 +1,6 @@
 //! What is wrong with a text before it is parsed.
 ghost use Rattle.std.specs.Prelude.{◌≡◌, IfOk};
-ghost use Rattle.wac_error_diagnostics.specs.Reading.{
+ghost use Rattle.wac_first_error.specs.Reading.{
   begins_with_mark,
   IsReading,
   SaysMarked,

@@ -4,8 +4,8 @@ use Rattle.std.specs.Str.{IsValidUpTo}
 use Rattle.wac_lexer.specs.Span.{Span, span}
 use Rattle.wac_diagnostics.specs.Reports.{Says}
 use Rattle.wac_diagnostics.specs.declared.diagnostic.Diagnostic.{Diagnostic}
-use Rattle.wac_error_diagnostics.specs.declared.reading.Reading.{Reading}
-use Rattle.wac_error_diagnostics.specs.declared.reading.Reading.TheVariants.{Text, Rejected}
+use Rattle.wac_first_error.specs.declared.reading.Reading.{Reading}
+use Rattle.wac_first_error.specs.declared.reading.Reading.TheVariants.{Text, Rejected}
 
 -- whether bytes begin with a byte order mark, as UTF-8 has it
 abbrev pub begins_with_mark : List ℕ → Bool

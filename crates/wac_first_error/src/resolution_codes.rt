@@ -1,7 +1,7 @@
 //! Codes of the errors of resolving.
 ghost use Rattle.std.specs.Prelude.{◌≡◌};
 ghost use Rattle.wac_resolution_errors.specs.Told.{told};
-ghost use Rattle.wac_error_diagnostics.specs.Codes.{resolution_code};
+ghost use Rattle.wac_first_error.specs.Codes.{resolution_code};
 
 use wac_resolution_errors::Error;
 

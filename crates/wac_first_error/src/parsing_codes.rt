@@ -1,7 +1,7 @@
 //! Codes of the errors of parsing.
 ghost use Rattle.std.specs.Prelude.{◌≡◌};
 ghost use Rattle.wac_ast_base.specs.Error.{told_by};
-ghost use Rattle.wac_error_diagnostics.specs.Codes.{parse_code};
+ghost use Rattle.wac_first_error.specs.Codes.{parse_code};
 
 use wac_ast_base::Error;
 use wac_diagnostics::lexer_code;

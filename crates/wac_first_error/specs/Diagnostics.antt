@@ -8,7 +8,7 @@ use Rattle.wac_resolution_errors.specs.Messages.{text_of}
 use Rattle.wac_resolution_errors.specs.Places.{span_of}
 use Rattle.wac_diagnostics.specs.Reports.{Says}
 use Rattle.wac_diagnostics.specs.declared.diagnostic.Diagnostic.{Diagnostic}
-use Rattle.wac_error_diagnostics.specs.Codes.{parse_code, resolution_code}
+use Rattle.wac_first_error.specs.Codes.{parse_code, resolution_code}
 
 -- where an error of parsing lies: nowhere where memory ran out
 abbrev pub place_of : Parsing → Option Span

@@ -2,7 +2,7 @@
 ghost use Rattle.std.specs.Prelude.{◌≢◌, IfOk, alloc_error};
 ghost use Rattle.wac_resolution_errors.specs.Told.{told};
 ghost use Rattle.wac_resolution_errors.specs.declared.error.Error.TheVariants.{Memory};
-ghost use Rattle.wac_error_diagnostics.specs.Diagnostics.{IsOfResolving};
+ghost use Rattle.wac_first_error.specs.Diagnostics.{IsOfResolving};
 
 use crate::resolution_codes::resolution_code;
 use std::alloc::{AllocError, Global};

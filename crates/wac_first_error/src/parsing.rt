@@ -1,7 +1,7 @@
 //! Diagnostics of the errors of parsing.
 ghost use Rattle.std.specs.Prelude.{◌≡◌, ◌≢◌, IfOk};
 ghost use Rattle.wac_ast_base.specs.Error.{told_by, no_memory};
-ghost use Rattle.wac_error_diagnostics.specs.Diagnostics.{place_of, IsOfParsing};
+ghost use Rattle.wac_first_error.specs.Diagnostics.{place_of, IsOfParsing};
 
 use crate::parsing_codes::parse_code;
 use std::alloc::{AllocError, Global};
