@@ -1,9 +1,11 @@
 //! What is known of a document that is resolved with packages.
 
+use crate::known::KnownPackages;
+use crate::texts::end_of;
 use indexmap::IndexMap;
 use std::alloc::{AllocError, Global};
 use wac_ast::PackageDirective;
-use wac_declaration_errors::{KnownPackages, end_of, supplied_packages};
+use wac_declared_packages::supplied_packages;
 use wac_graph::{Package, PackageKey};
 use wac_instantiations::Instantiations;
 use wac_lexer::SourceSpan;

@@ -2,10 +2,10 @@
 
 use crate::context::Context;
 use crate::rules::NoRules;
+use crate::texts::end_of;
 use std::alloc::{AllocError, Global};
 use wac_ast::Document;
 use wac_composition::graph_with;
-use wac_declaration_errors::end_of;
 use wac_graph::CompositionGraph;
 use wac_lexer::SourceSpan;
 use wac_printer::Page;

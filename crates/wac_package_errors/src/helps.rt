@@ -3,11 +3,11 @@
 use crate::accesses::exports_help;
 use crate::arguments::{imports_help, missing_argument};
 use crate::context::Context;
+use crate::known::push_definitions;
 use crate::mismatches::argument_help;
 use crate::spreads::spread_help;
 use crate::targets::{lacking_import_help, missing_export_help, target_help};
 use std::alloc::{AllocError, Global};
-use wac_declaration_errors::push_definitions;
 use wac_resolution_errors::Error;
 
 /// What can be done about an error, where packages tell.

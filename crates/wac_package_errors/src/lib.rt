@@ -1,4 +1,5 @@
-//! The first error of a document that is resolved with packages that documents declare, with its help.
+//! The first error of a document that is resolved with packages that documents declare, with its help; and what is said of
+//! documents that declare none, with helps for those who copy WIT.
 //!
 //! ```text
 //! let declared = declare_all(alloc, &texts, &worlds)?;
@@ -15,21 +16,26 @@ mod accesses;
 mod arguments;
 mod bare;
 mod context;
+mod declaring;
 mod earlier;
 mod first;
 mod helps;
 mod items;
+mod known;
 mod mismatches;
+mod order;
 mod rules;
 mod sources;
 mod spreads;
 mod targets;
+mod texts;
+mod wit;
 
+pub use declaring::declaration_diagnostic;
 pub use first::{Composed, first_error_with};
+pub use known::KnownPackages;
+pub use wit::syntax_diagnostic;
 // What a caller supplies, or asks first.
 pub use wac_composition::flat_text;
-pub use wac_declaration_errors::{
-    DeclarationFault, Declared, KnownPackages, declaration_diagnostic, declare_all,
-    syntax_diagnostic,
-};
+pub use wac_declared_packages::{DeclarationFault, Declared, declare_all};
 pub use wac_resolution_mentions::packages;

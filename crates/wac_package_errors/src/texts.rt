@@ -3,12 +3,12 @@
 use wac_lexer::SourceSpan;
 
 /// Where a span ends.
-pub fn end_of(span: SourceSpan) -> usize {
+pub(crate) fn end_of(span: SourceSpan) -> usize {
     span.offset().saturating_add(span.len())
 }
 
 /// The text of a span; none where it isn't a part of the text.
-pub fn text_at(text: &str, span: SourceSpan) -> &str {
+pub(crate) fn text_at(text: &str, span: SourceSpan) -> &str {
     text.get(span.offset()..end_of(span)).unwrap_or("")
 }
 

@@ -12,7 +12,7 @@ use wac_lexer::SourceSpan;
 use wac_resolution_errors::Error;
 
 /// The code of an error of declaring a package.
-pub fn declaration_code(error: &DeclarationError) -> &'static str {
+fn declaration_code(error: &DeclarationError) -> &'static str {
     match error {
         DeclarationError::Syntax(error) => parse_code(error),
         DeclarationError::OtherStatement(_) => "wac::other-statement",

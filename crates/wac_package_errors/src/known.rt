@@ -80,7 +80,7 @@ impl<'k> KnownPackages<'k> {
 }
 
 /// Appends what a package defines in place of a name.
-pub fn push_definitions(
+pub(crate) fn push_definitions(
     alloc: Global,
     out: &mut String,
     package: (&PackageKey, &Package),
