@@ -7,8 +7,8 @@ use std::alloc::{AllocError, Global};
 use wac_ast::PackageDirective;
 use wac_declared_packages::supplied_packages;
 use wac_graph::{Package, PackageKey};
-use wac_instantiations::Instantiations;
 use wac_lexer::SourceSpan;
+use wac_package_names::Instantiations;
 
 /// What is known of a document that is resolved with packages.
 #[derive(Clone, Copy)]
