@@ -8,7 +8,7 @@ use crate::verdicts::first_error_of;
 use std::alloc::{AllocError, Global};
 use std::io::Write;
 use wac_cli_console::{Console, Outcome, Status, Task, finish};
-use wac_composition_warnings::warnings_of;
+use wac_composition::warnings_of;
 use wac_diagnostics::Diagnostic;
 use wac_files::{FileError, FileSystem, Found, find_files};
 use wac_graph::CompositionGraph;

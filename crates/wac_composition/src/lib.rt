@@ -1,8 +1,15 @@
-//! Reading the text of a composition, and resolving it into its graph.
+//! Reading the text of a composition, resolving it into its graph, and warnings: what of a composition without an error may
+//! not be meant.
 #![tactic(auto)]
 
+mod cases;
+mod conflicts;
+mod finding;
+mod places;
 mod reading;
 mod resolving;
 
+pub use finding::warnings;
+pub use places::warnings_of;
 pub use reading::flat_text;
 pub use resolving::graph_with;

@@ -1,7 +1,7 @@
 //! What is wrong with the documents of folders.
 use crate::packages::Packages;
 use std::alloc::{AllocError, Global};
-use wac_composition_warnings::warnings_of;
+use wac_composition::warnings_of;
 use wac_diagnostics::Diagnostic;
 use wac_first_error::Reading;
 use wac_package_errors::{
