@@ -53,6 +53,14 @@ impl Found {
         } = self;
         Instantiations { all, accesses }
     }
+
+    /// What was found, unless memory ran out.
+    fn after(self, noted: Result<(), AllocError>) -> Result<Instantiations, AllocError> {
+        match noted {
+            Ok(()) => Ok(self.into_instantiations()),
+            Err(refused) => Err(refused),
+        }
+    }
 }
 
 /// The instantiations and the accesses of statements. The error is that memory ran out.
@@ -61,8 +69,8 @@ pub fn find_instantiations(
     statements: Statements<'_, '_>,
 ) -> Result<Instantiations, AllocError> {
     let mut found = Found::new(alloc);
-    all_statements(&mut found, statements)?;
-    Ok(found.into_instantiations())
+    let noted = all_statements(&mut found, statements);
+    found.after(noted)
 }
 
 /// Notes what lent statements have.
