@@ -1,11 +1,11 @@
 //! The graph of a part of a document, which helps to say what is wrong in another part.
 
 use crate::context::Context;
+use crate::resolving::graph_of;
 use crate::rules::NoRules;
 use crate::texts::end_of;
 use std::alloc::{AllocError, Global};
 use wac_ast::Document;
-use wac_composition::graph_with;
 use wac_graph::CompositionGraph;
 use wac_lexer::SourceSpan;
 use wac_printer::Page;
@@ -135,8 +135,12 @@ fn resolved(
     alloc: Global,
     context: Context<'_>,
 ) -> Result<Beginning, AllocError> {
-    let packages = context.supplied(alloc)?;
-    match graph_with(page, alloc, packages, &NoRules) {
+    beginning_of(graph_of(page, alloc, context, &NoRules))
+}
+
+/// What a document is that was resolved.
+fn beginning_of(graph: Result<CompositionGraph, Error>) -> Result<Beginning, AllocError> {
+    match graph {
         Ok(graph) => Ok(Beginning::Graph(graph)),
         Err(Error::Memory(refused)) => Err(refused),
         Err(_) => Ok(Beginning::Broken),

@@ -6,6 +6,7 @@ use crate::bare::{Bare, first_without_world, no_world};
 use crate::context::{Context, target_end};
 use crate::helps::help_with;
 use crate::known::KnownPackages;
+use crate::resolving::graph_of;
 use crate::texts::end_of;
 use crate::wit::syntax_diagnostic;
 use indexmap::IndexMap;
@@ -13,7 +14,6 @@ use std::alloc::{AllocError, Global};
 use wac_ast::Document;
 use wac_ast::internals::Statements;
 use wac_component_rules::ComponentRules;
-use wac_composition::graph_with;
 use wac_diagnostics::Diagnostic;
 use wac_first_error::resolution_diagnostic;
 use wac_graph::{CompositionGraph, PackageKey};
@@ -57,7 +57,17 @@ pub fn first_error_with(
             text,
             known,
         ),
-        Err(error) => Ok(Composed::Rejected(syntax_diagnostic(alloc, text, &error)?)),
+        Err(error) => unparsed(alloc, text, &error),
+    }
+}
+
+/// What is said of a text that is no document.
+fn unparsed(alloc: Global, text: &str, error: &wac_ast::Error) -> Result<Composed, AllocError>
+    ensures { IfOk result (λ composed. IsDocumentOrRejected text.now composed) }
+{
+    match syntax_diagnostic(alloc, text, error) {
+        Ok(diagnostic) => Ok(Composed::Rejected(diagnostic)),
+        Err(refused) => Err(refused),
     }
 }
 
@@ -69,11 +79,16 @@ fn judged(
     known: KnownPackages<'_>,
 ) -> Result<Composed, AllocError> {
     let Page { document } = page;
-    let mentioned = packages(alloc, document)?;
-    if known.has_faulty(&mentioned) {
-        return Ok(Composed::Unresolved);
+    match packages(alloc, document) {
+        Ok(mentioned) => {
+            if known.has_faulty(&mentioned) {
+                Ok(Composed::Unresolved)
+            } else {
+                mentioning(Page { document }, alloc, text, known, &mentioned)
+            }
+        }
+        Err(refused) => Err(refused),
     }
-    mentioning(Page { document }, alloc, text, known, &mentioned)
 }
 
 /// The rule that a document breaks first, which mentions packages.
@@ -88,16 +103,20 @@ fn mentioning(
     let statements = Statements {
         all: &document.statements,
     };
-    let news = find_instantiations(alloc, statements)?;
-    let context = Context {
-        text,
-        target_start: end_of(document.directive.package.span),
-        target_end: target_end(&document.directive),
-        mentioned,
-        news: &news,
-        known,
-    };
-    resolved(Page { document }, alloc, context)
+    match find_instantiations(alloc, statements) {
+        Ok(news) => {
+            let context = Context {
+                text,
+                target_start: end_of(document.directive.package.span),
+                target_end: target_end(&document.directive),
+                mentioned,
+                news: &news,
+                known,
+            };
+            resolved(Page { document }, alloc, context)
+        }
+        Err(refused) => Err(refused),
+    }
 }
 
 /// The rule that a document breaks first.
@@ -106,8 +125,17 @@ fn resolved(
     alloc: Global,
     context: Context<'_>,
 ) -> Result<Composed, AllocError> {
-    let packages = context.supplied(alloc)?;
-    match graph_with(page, alloc, packages, &ComponentRules::new(alloc)) {
+    let graph = graph_of(page, alloc, context, &ComponentRules::new(alloc));
+    outcome_of(alloc, context, graph)
+}
+
+/// What a document is, by its graph or the rule that it breaks first.
+fn outcome_of(
+    alloc: Global,
+    context: Context<'_>,
+    graph: Result<CompositionGraph, Error>,
+) -> Result<Composed, AllocError> {
+    match graph {
         Ok(graph) => with_worlds(alloc, context, graph),
         Err(error) => rejected(alloc, context, &error),
     }

@@ -24,6 +24,7 @@ mod items;
 mod known;
 mod mismatches;
 mod order;
+mod resolving;
 mod rules;
 mod sources;
 mod spreads;
