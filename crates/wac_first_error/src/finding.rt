@@ -1,9 +1,10 @@
 //! What a text is, or what is wrong with it first.
-ghost use Rattle.std.specs.Prelude.{◌≡◌, IfOk, None, true};
+ghost use Rattle.std.specs.Prelude.{◌≡◌, IfOk, None, false, true};
 ghost use Rattle.wac_ast.specs.Statements.{document_of};
 ghost use Rattle.wac_ast_base.specs.Error.{told_by};
 ghost use Rattle.wac_comments_layout.specs.Nesting.{too_deep};
 ghost use Rattle.wac_first_error.specs.Findings.{IsDepth, IsFault, IsFinding, IsResolved, IsRule};
+ghost use Rattle.wac_first_error.specs.Mentioned.{mentions_foreign};
 
 use crate::parsing::parse_diagnostic;
 use crate::reading::nested_too_deep;
@@ -80,22 +81,23 @@ fn find_fault(alloc: Global, error: &Error) -> Result<Finding, AllocError>
 fn find_in(alloc: Global, page: Page<'_, '_>, resolve: bool) -> Result<Finding, AllocError>
     ensures { IfOk result (λ finding. IsResolved (document_of page.entry) resolve finding) }
 {
-    if resolve {
-        find_resolved(alloc, page)
-    } else {
-        Ok(Finding::Document)
+    let Page { document } = page;
+    if !resolve {
+        return Ok(Finding::Document);
+    }
+    match mentions_packages(alloc, Page { document }) {
+        Ok(true) => Ok(Finding::Unresolved),
+        Ok(false) => find_alone(alloc, Page { document }),
+        Err(_) => Err(AllocError),
     }
 }
 
-/// What a document is, or which rule it breaks first.
-fn find_resolved(alloc: Global, page: Page<'_, '_>) -> Result<Finding, AllocError>
+/// What a document is that mentions no foreign package, or which rule it breaks first.
+fn find_alone(alloc: Global, page: Page<'_, '_>) -> Result<Finding, AllocError>
+    requires { mentions_foreign (document_of page) ≡ false }
     ensures { IfOk result (λ finding. IsResolved (document_of page.entry) true finding) }
 {
-    let Page { document } = page;
-    if mentions_packages(alloc, Page { document })? {
-        return Ok(Finding::Unresolved);
-    }
-    match broken_rule(alloc, Page { document }) {
+    match broken_rule(alloc, page) {
         Ok(()) => Ok(Finding::Document),
         Err(error) => find_rule(alloc, &error),
     }
