@@ -8,11 +8,10 @@ use crate::verdicts::first_error_of;
 use std::alloc::{AllocError, Global};
 use std::io::Write;
 use wac_cli_console::{Console, Outcome, Status, Task, finish};
-use wac_composition::warnings_of;
 use wac_diagnostics::Diagnostic;
 use wac_files::{FileError, FileSystem, Found, find_files};
 use wac_graph::CompositionGraph;
-use wac_package_errors::Composed;
+use wac_package_errors::{Composed, warnings_of};
 
 /// Reports the first error of each file that paths lead to, which is resolved with the packages that other files
 /// declare, and the first error of each of these. A last line counts all files. A file that is checked is never read as

@@ -5,11 +5,9 @@
 mod cases;
 mod conflicts;
 mod finding;
-mod places;
 mod reading;
 mod resolving;
 
 pub use finding::warnings;
-pub use places::warnings_of;
 pub use reading::flat_text;
 pub use resolving::graph_with;

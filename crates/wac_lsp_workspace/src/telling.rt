@@ -1,11 +1,10 @@
 //! What is wrong with the documents of folders.
 use crate::packages::Packages;
 use std::alloc::{AllocError, Global};
-use wac_composition::warnings_of;
 use wac_diagnostics::Diagnostic;
 use wac_first_error::Reading;
 use wac_package_errors::{
-    Composed, KnownPackages, declaration_diagnostic, first_error_with, flat_text,
+    Composed, KnownPackages, declaration_diagnostic, first_error_with, flat_text, warnings_of,
 };
 
 /// What the command's help says where no file has a package.

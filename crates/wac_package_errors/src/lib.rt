@@ -1,5 +1,5 @@
-//! The first error of a document that is resolved with packages that documents declare, with its help; and what is said of
-//! documents that declare none, with helps for those who copy WIT.
+//! The first error of a document that is resolved with packages that documents declare, with its help; warnings of one
+//! without an error; and what is said of documents that declare none, with helps for those who copy WIT.
 //!
 //! ```text
 //! let declared = declare_all(alloc, &texts, &worlds)?;
@@ -24,6 +24,7 @@ mod items;
 mod known;
 mod mismatches;
 mod order;
+mod places;
 mod resolving;
 mod rules;
 mod sources;
@@ -35,6 +36,7 @@ mod wit;
 pub use declaring::declaration_diagnostic;
 pub use first::{Composed, first_error_with};
 pub use known::KnownPackages;
+pub use places::warnings_of;
 pub use wit::syntax_diagnostic;
 // What a caller supplies, or asks first.
 pub use wac_composition::flat_text;

@@ -1,9 +1,10 @@
-//! The same warnings of a text whose graph is known: the text is parsed anew for the places of its names.
-use crate::finding::warnings;
+//! Warnings of a text whose graph is known: the text is parsed anew for the places of its names.
+
 use indexmap::IndexMap;
 use std::alloc::{AllocError, Global};
 use wac_ast::Document;
 use wac_ast::internals::Statements;
+use wac_composition::warnings;
 use wac_diagnostics::Diagnostic;
 use wac_graph::CompositionGraph;
 use wac_graph_outputs::bound_places;
