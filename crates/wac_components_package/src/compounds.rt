@@ -15,23 +15,36 @@ impl<'t> Converter<'t> {
         let Some(entry) = self.table.ty(ty) else {
             return Err(ConversionError::Unsupported);
         };
-        let kind = match entry.def {
-            TypeDef::Named(named) => self.named_kind(ty, named)?,
-            TypeDef::Primitive(primitive) => {
-                ItemKind::Ty(Type::Value(ValueType::Primitive(primitive)))
-            }
-            TypeDef::Resource => self.unnamed_resource()?,
-            TypeDef::Func(func) => self.func_kind(func)?,
-            TypeDef::Own(resource) => {
-                ItemKind::Ty(Type::Value(ValueType::Own(self.resource(resource)?)))
-            }
-            TypeDef::Borrow(resource) => {
-                ItemKind::Ty(Type::Value(ValueType::Borrow(self.resource(resource)?)))
-            }
-            other => self.defined_kind(other)?,
-        };
+        let kind = self.kind_of(ty, entry.def)?;
         self.kinds.insert(ty.0, kind)?;
         Ok(())
+    }
+
+    /// The kind of a type, of which all that it names is converted.
+    fn kind_of(&mut self, ty: TypeId, def: TypeDef) -> Result<ItemKind, ConversionError> {
+        match def {
+            TypeDef::Named(named) => self.named_kind(ty, named),
+            TypeDef::Primitive(primitive) => {
+                Ok(ItemKind::Ty(Type::Value(ValueType::Primitive(primitive))))
+            }
+            TypeDef::Resource => self.unnamed_resource(),
+            TypeDef::Func(func) => self.func_kind(func),
+            TypeDef::Own(resource) => self.own_kind(resource),
+            TypeDef::Borrow(resource) => self.borrow_kind(resource),
+            other => self.defined_kind(other),
+        }
+    }
+
+    /// The kind of owned handles of a resource.
+    fn own_kind(&self, resource: TypeId) -> Result<ItemKind, ConversionError> {
+        let resource = self.resource(resource)?;
+        Ok(ItemKind::Ty(Type::Value(ValueType::Own(resource))))
+    }
+
+    /// The kind of borrowed handles of a resource.
+    fn borrow_kind(&self, resource: TypeId) -> Result<ItemKind, ConversionError> {
+        let resource = self.resource(resource)?;
+        Ok(ItemKind::Ty(Type::Value(ValueType::Borrow(resource))))
     }
 
     /// A converted resource.
@@ -109,22 +122,40 @@ impl<'t> Converter<'t> {
         }
     }
 
+    /// A field of a record, or a parameter.
+    fn field(&self, parts: Parts, place: usize) -> Result<(String, ValueType), ConversionError> {
+        let part = self.part(parts, place)?;
+        let ty = self.part_type(part)?;
+        let name = self.part_name(part)?;
+        Ok((name, ty))
+    }
+
     fn fields(&self, parts: Parts) -> Result<IndexMap<String, ValueType>, ConversionError> {
         let mut all = IndexMap::new(self.alloc);
         for place in 0..parts.count {
-            let part = self.part(parts, place)?;
-            let ty = self.part_type(part)?;
-            all.insert(self.part_name(part)?, ty)?;
+            let (name, ty) = self.field(parts, place)?;
+            all.insert(name, ty)?;
         }
         Ok(all)
+    }
+
+    /// A case of a variant.
+    fn case(
+        &self,
+        parts: Parts,
+        place: usize,
+    ) -> Result<(String, Option<ValueType>), ConversionError> {
+        let part = self.part(parts, place)?;
+        let ty = self.optional(part.ty)?;
+        let name = self.part_name(part)?;
+        Ok((name, ty))
     }
 
     fn cases(&self, parts: Parts) -> Result<IndexMap<String, Option<ValueType>>, ConversionError> {
         let mut all = IndexMap::new(self.alloc);
         for place in 0..parts.count {
-            let part = self.part(parts, place)?;
-            let ty = self.optional(part.ty)?;
-            all.insert(self.part_name(part)?, ty)?;
+            let (name, ty) = self.case(parts, place)?;
+            all.insert(name, ty)?;
         }
         Ok(all)
     }
@@ -148,11 +179,11 @@ impl<'t> Converter<'t> {
     }
 
     fn func_kind(&mut self, func: Func) -> Result<ItemKind, ConversionError> {
-        let params = self.fields(func.params)?;
         let results = match self.optional(func.result)? {
             Some(ty) => FuncResults::Scalar(ty),
             None => FuncResults::None,
         };
+        let params = self.fields(func.params)?;
         let id = self.types.add_func_type(FuncType {
             params,
             results,

@@ -3,8 +3,25 @@
 use crate::conversion::ConversionError;
 use crate::converter::Converter;
 use indexmap::IndexMap;
+use std::alloc::Global;
 use wac_components_types::{ComponentId, InstanceId, Item, NameId, Owner, TypeDef, TypeId};
 use wac_graph_types::{Interface, ItemKind, ModuleTypeId, Type, UsedType, World};
+
+/// The items of an interface or a world, and the types that it has from other interfaces.
+#[derive(Drop)]
+struct Items {
+    all: IndexMap<String, ItemKind>,
+    uses: IndexMap<String, UsedType>,
+}
+
+impl Items {
+    fn new(alloc: Global) -> Self {
+        Items {
+            all: IndexMap::new(alloc),
+            uses: IndexMap::new(alloc),
+        }
+    }
+}
 
 impl<'t> Converter<'t> {
     /// The kind of an item, all of which is converted.
@@ -68,25 +85,90 @@ impl<'t> Converter<'t> {
         Ok(())
     }
 
+    /// Adds the kind of an item under its name.
+    fn add_kind(
+        &mut self,
+        all: &mut IndexMap<String, ItemKind>,
+        name: NameId,
+        item: Item,
+    ) -> Result<(), ConversionError> {
+        let kind = self.item_kind(item)?;
+        let name = self.text(name)?;
+        all.insert(name, kind)?;
+        Ok(())
+    }
+
+    /// Adds an item of an interface or a world, and the type that it is, where it is one of another interface.
+    fn add_item(
+        &mut self,
+        items: &mut Items,
+        owner: Owner,
+        name: NameId,
+        item: Item,
+    ) -> Result<(), ConversionError> {
+        self.add_kind(&mut items.all, name, item)?;
+        match item {
+            Item::Type(ty) => self.add_use(&mut items.uses, name, ty, owner),
+            _ => Ok(()),
+        }
+    }
+
+    /// What an instance exports.
+    fn exported_items(&mut self, instance: InstanceId) -> Result<Items, ConversionError> {
+        let mut items = Items::new(self.alloc);
+        for place in 0..self.table.export_count(instance) {
+            if let Some((name, item)) = self.table.export_at(instance, place) {
+                self.add_item(&mut items, Owner::Instance(instance), name, item)?;
+            }
+        }
+        Ok(items)
+    }
+
+    /// What a component imports, of which there are `count`.
+    fn imported_items(
+        &mut self,
+        component: ComponentId,
+        count: usize,
+    ) -> Result<Items, ConversionError> {
+        let mut items = Items::new(self.alloc);
+        for place in 0..count {
+            if let Some((name, item)) = self.table.import_at(component, place) {
+                self.add_item(&mut items, Owner::Component(component), name, item)?;
+            }
+        }
+        Ok(items)
+    }
+
     /// Converts an instance, all of whose exports are converted.
     pub(crate) fn convert_instance(&mut self, instance: InstanceId) -> Result<(), ConversionError> {
         if self.interfaces.contains_key(&instance.0) {
             return Ok(());
         }
-        let mut exports = IndexMap::new(self.alloc);
-        let mut uses = IndexMap::new(self.alloc);
-        for place in 0..self.table.export_count(instance) {
-            if let Some((name, item)) = self.table.export_at(instance, place) {
-                let kind = self.item_kind(item)?;
-                exports.insert(self.text(name)?, kind)?;
-                if let Item::Type(ty) = item {
-                    self.add_use(&mut uses, name, ty, Owner::Instance(instance))?;
-                }
-            }
+        match self.interface(instance) {
+            Ok(interface) => self.add_interface(instance, interface),
+            Err(error) => Err(error),
         }
+    }
+
+    /// The interface that an instance is.
+    fn interface(&mut self, instance: InstanceId) -> Result<Interface, ConversionError> {
         let id = self.id_of(instance)?;
-        let interface = self.types.add_interface(Interface { id, uses, exports })?;
-        self.interfaces.insert(instance.0, interface)?;
+        let Items { all, uses } = self.exported_items(instance)?;
+        Ok(Interface {
+            id,
+            uses,
+            exports: all,
+        })
+    }
+
+    /// Adds the interface of an instance.
+    fn add_interface(
+        &mut self,
+        instance: InstanceId,
+        interface: Interface,
+    ) -> Result<(), ConversionError> {
+        let id = self.types.add_interface(interface)?;
+        self.interfaces.insert(instance.0, id)?;
         Ok(())
     }
 
@@ -119,28 +201,32 @@ impl<'t> Converter<'t> {
         };
         let instance = found.instance;
         let count = found.imports.len();
-        let mut uses = IndexMap::new(self.alloc);
-        let mut imports = IndexMap::new(self.alloc);
-        for place in 0..count {
-            if let Some((name, item)) = self.table.import_at(component, place) {
-                let kind = self.item_kind(item)?;
-                imports.insert(self.text(name)?, kind)?;
-                if let Item::Type(ty) = item {
-                    self.add_use(&mut uses, name, ty, Owner::Component(component))?;
-                }
-            }
+        match self.imported_items(component, count) {
+            Ok(imports) => self.add_world(component, instance, imports),
+            Err(error) => Err(error),
         }
+    }
+
+    /// Adds the world of a component, which imports these items and exports what its instance does.
+    fn add_world(
+        &mut self,
+        component: ComponentId,
+        instance: InstanceId,
+        imports: Items,
+    ) -> Result<(), ConversionError> {
         let exports = self.exports(instance)?;
-        let world = self.types.add_world(World {
+        let Items { all, uses } = imports;
+        let id = self.types.add_world(World {
             id: None,
             uses,
-            imports,
+            imports: all,
             exports,
         })?;
-        self.worlds.insert(component.0, world)?;
+        self.worlds.insert(component.0, id)?;
         Ok(())
     }
 
+    /// What an instance exports, without the types that it has from other interfaces.
     fn exports(
         &mut self,
         instance: InstanceId,
@@ -148,8 +234,7 @@ impl<'t> Converter<'t> {
         let mut all = IndexMap::new(self.alloc);
         for place in 0..self.table.export_count(instance) {
             if let Some((name, item)) = self.table.export_at(instance, place) {
-                let kind = self.item_kind(item)?;
-                all.insert(self.text(name)?, kind)?;
+                self.add_kind(&mut all, name, item)?;
             }
         }
         Ok(all)
