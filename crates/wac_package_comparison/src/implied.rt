@@ -5,7 +5,9 @@ ghost use Rattle.wac_graph_types.specs.Package.{IsPackage};
 use crate::parts::{add_instance, copied_items, copied_types};
 use indexmap::IndexMap;
 use std::alloc::{AllocError, Global};
-use wac_graph::{Interface, InterfaceId, ItemKind, Package, PackageError, Types, UsedType, World};
+use wac_graph::{
+    Interface, InterfaceId, ItemKind, Package, PackageError, Types, UsedType, World, WorldId,
+};
 
 /// What a world imports, with what is implied, and interfaces whose uses aren't looked at yet.
 #[derive(Drop)]
@@ -28,17 +30,32 @@ struct Imports {
 pub fn with_implied_imports(alloc: Global, package: &Package) -> Result<Package, PackageError>
     ensures { IfOk result IsPackage }
 {
+    let mut types = copied_types(alloc, package)?;
+    let world = add_world(alloc, &mut types, package)?;
+    let instance = add_exports(alloc, &mut types, package)?;
+    Package::new(types, world, instance, IndexMap::new(alloc))
+}
+
+/// Adds a world that imports what a package's world does, with what is implied, and exports what that exports.
+fn add_world(alloc: Global, types: &mut Types, package: &Package) -> Result<WorldId, AllocError> {
     let imports = implied_imports(alloc, package)?;
     let exports = exports_of(alloc, package)?;
-    let mut types = copied_types(alloc, package)?;
-    let world = types.add_world(World {
+    types.add_world(World {
         id: None,
         uses: IndexMap::new(alloc),
         imports,
-        exports: copied_items(alloc, &exports)?,
-    })?;
-    let instance = add_instance(alloc, &mut types, exports)?;
-    Package::new(types, world, instance, IndexMap::new(alloc))
+        exports,
+    })
+}
+
+/// Adds an interface that exports what a package's world does.
+fn add_exports(
+    alloc: Global,
+    types: &mut Types,
+    package: &Package,
+) -> Result<InterfaceId, AllocError> {
+    let exports = exports_of(alloc, package)?;
+    add_instance(alloc, types, exports)
 }
 
 /// What a package's world exports.
