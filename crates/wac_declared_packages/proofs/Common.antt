@@ -1,5 +1,5 @@
 -- The words of other crates that proofs of this crate cite, given on from one place. It declares nothing.
-pub use Rattle.std.proofs.Common.{Bool, Err, List, None, Ok, Option, Result, Some, [], ap, arith, cond, drop, false, get_or, inl, inr, is_some, length, ltb, map, refl, rules, subst, suc, sym, true, zero, ℕ, ◌+◌, ◌<◌, ◌∙◌, ◌∷◌, ◌≡◌, ◌≤◌, ◌⊎◌}
+pub use Rattle.std.proofs.Common.{Bool, Err, List, None, Ok, Option, Result, Some, [], ap, arith, cond, drop, false, get_or, inl, inr, is_some, length, ltb, map, refl, subst, suc, sym, true, zero, ℕ, ◌+◌, ◌<◌, ◌∙◌, ◌∷◌, ◌≡◌, ◌≤◌, ◌⊎◌}
 pub use Rattle.std.specs.Prelude.{IfErr, IfOk, OnOk, String, option_map, slice_get}
 pub use Rattle.wac_ast.specs.Statements.{document_of, statement_of}
 pub use Rattle.wac_ast_grammar.specs.TextTree.{IsTreeOf}

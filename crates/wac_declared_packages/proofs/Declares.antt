@@ -3,7 +3,10 @@ use Rattle.wac_declared_packages.proofs.Common.{◌≡◌, ◌∙◌, ℕ, zero,
 use Rattle.std.specs.declared.alloc.Global.{Global}
 use denote.Bor.{Bor}
 use Rattle.wac_ast_grammar.specs.Tree.{Document}
-use Rattle.wac_declared_packages.specs.Declaring.{IsDeclaredBy}
+use Rattle.wac_graph.specs.Graph.{Parts}
+use Rattle.wac_graph_packages.specs.Definitions.{AreExported, HasWorld}
+use Rattle.wac_graph_types.specs.Growth.{KeepsMeanings}
+use Rattle.wac_declared_packages.specs.Declaring.{IsDeclaredBy, IsGraphOf}
 use Rattle.wac_declared_packages.specs.Refusing.{IsDeclaration}
 use Rattle.wac_declared_packages.specs.Together.{AreCopiesOf, AreDeclared, IsDeclared, IsOneOf, Puts, by_copy, by_text, declared_key, found, now_of, world_chosen}
 
@@ -34,6 +37,24 @@ declared_here texts worlds text document supplied key world (Ok p) one tree all 
     subst (λ (k : Key). IsDeclared texts worlds k p.1) (sym keyed)
     (by_text text document supplied p.1 one tree fits all (subst (λ (w : Option (List ℕ)). IsDeclaredBy supplied document w p.1) here is))
 declared_here texts worlds text document supplied key world (Err e) one tree all names chosen keyed is fits = tt
+
+-- it is declared by its parts
+pub declared_with : {E : Type 0} (packages : List (PackageKey × PackageParts)) (document : Document) (world : Option (List ℕ)) (graph : Parts) (r : Result (PackageKey × PackageParts) E)
+    → IsGraphOf packages document graph → IfOk r (λ p. AreExported graph p.1.definitions) → IfOk r (λ p. KeepsMeanings graph.types p.1.types) → IfOk r (λ p. HasWorld world p.1)
+    → IfOk r (λ p. IsDeclaredBy packages document world p.1)
+declared_with packages document world graph (Ok p) of_document definitions means has_world =
+    record { graph = graph; of_document = of_document; definitions = definitions; means = means; has_world = has_world }
+declared_with packages document world graph (Err e) of_document definitions means has_world = tt
+
+-- the key is that of another name
+pub keyed_as : {E : Type 0} (r : Result (PackageKey × PackageParts) E) (key other : Key) → IfOk r (λ p. key_of p.0 ≡ key) → key ≡ other → IfOk r (λ p. key_of p.0 ≡ other)
+keyed_as (Ok p) key other keyed same = keyed ∙ same
+keyed_as (Err e) key other keyed same = tt
+
+-- what holds anyway holds of the outcome
+pub holds_anyway : {X E : Type 0} (r : Result X E) (P : Type 0) → P → IfOk r (λ _. P)
+holds_anyway (Ok x) P holds = holds
+holds_anyway (Err e) P holds = tt
 
 -- copies of what is declared are declared
 pub copies_declared : (texts : List (List ℕ)) (worlds : List (PackageKey × String Global)) (packages copies : List (PackageKey × PackageParts))

@@ -43,6 +43,10 @@ Unfit d e = ((place : Span) × (e ≡ errors.Targets place) × (target_place d �
 abbrev pub IsMemory : DeclarationError → Type 0
 IsMemory e = e ≡ errors.Memory alloc_error
 
+-- the document is no declaration, as the error says; or it is one, and memory ran out
+abbrev pub IsUnread : Document → DeclarationError → Type 0
+IsUnread d e = Unfit d e ⊎ (IsDeclaration d × IsMemory e)
+
 -- it is this error of resolving, or memory ran out
 abbrev pub IsOfResolving : ResolutionError → DeclarationError → Type 0
 IsOfResolving cause e = (e ≡ errors.Resolution cause) ⊎ IsMemory e

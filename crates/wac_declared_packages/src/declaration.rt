@@ -10,7 +10,7 @@ ghost use Rattle.wac_declared_packages.specs.Refusing.{IsDeclaration, IsUnmade};
 
 use crate::causes::{of_parts, of_resolving};
 use crate::error::DeclarationError;
-use crate::header::{key_of, test_declaration};
+use crate::header::tested_key;
 use crate::rules::NoRules;
 use indexmap::IndexMap;
 use std::alloc::Global;
@@ -36,22 +36,48 @@ fn resolved(
     }
 }
 
-/// The package of a graph, whose document has its package's name in that place.
+/// The package of a graph, with its key. The graph's document has the package's name in that place.
 fn packaged(
     alloc: Global,
     graph: &CompositionGraph,
+    key: PackageKey,
     world: Option<&str>,
     place: SourceSpan,
-) -> Result<Package, DeclarationError>
-    ensures definitions { IfOk result (λ p. AreExported graph.now p.definitions) }
-    ensures means { IfOk result (λ p. KeepsMeanings graph.now.types p.types) }
-    ensures world { IfOk result (λ p. HasWorld (option_map (λ s. s.now) world.entry) p) }
+) -> Result<(PackageKey, Package), DeclarationError>
+    ensures key { IfOk result (λ p. key_in p.0 ≡ key_in key) }
+    ensures definitions { IfOk result (λ p. AreExported graph.now p.1.definitions) }
+    ensures means { IfOk result (λ p. KeepsMeanings graph.now.types p.1.types) }
+    ensures world { IfOk result (λ p. HasWorld (option_map (λ s. s.now) world.entry) p.1) }
     ensures err { IfErr result (IsUnmade place) }
 {
     match package_of(alloc, graph, world) {
-        Ok(package) => Ok(package),
+        Ok(package) => Ok((key, package)),
         Err(DefinitionsError::NoSuchWorld) => Err(DeclarationError::NoSuchWorld(place)),
         Err(DefinitionsError::Parts(error)) => Err(of_parts(error)),
+    }
+}
+
+/// The package that a declaration of this key declares, with the key.
+fn keyed_package(
+    page: Page<'_, '_>,
+    alloc: Global,
+    key: PackageKey,
+    world: Option<&str>,
+    packages: IndexMap<PackageKey, Package>,
+) -> Result<(PackageKey, Package), DeclarationError>
+    requires key { key_in key ≡ declared_key (document_of page) }
+    requires fits { IsDeclaration (document_of page) }
+    ensures key { IfOk result (λ p. key_in p.0 ≡ declared_key (document_of page.entry)) }
+    ensures is { IfOk result (λ p. IsDeclaredBy packages.entries (document_of page.entry)
+        (option_map (λ s. s.now) world.entry) p.1) }
+    ensures fits { IfOk result (λ _. IsDeclaration (document_of page.entry)) }
+    ensures err { IfErr result (IsRefused packages.entries (document_of page.entry)) }
+{
+    let Page { document } = page;
+    let place = document.directive.package.span;
+    match resolved(Page { document }, alloc, packages) {
+        Ok(graph) => packaged(alloc, &graph, key, world, place),
+        Err(error) => Err(error),
     }
 }
 
@@ -82,11 +108,8 @@ pub fn declared_package(
     ensures err { IfErr result (IsRefused packages.entries (document_of page.entry)) }
 {
     let Page { document } = page;
-    test_declaration(Page { document })?;
-    let name = &document.directive.package;
-    let place = name.span;
-    let key = key_of(alloc, name)?;
-    let graph = resolved(Page { document }, alloc, packages)?;
-    let package = packaged(alloc, &graph, world, place)?;
-    Ok((key, package))
+    match tested_key(Page { document }, alloc) {
+        Ok(key) => keyed_package(Page { document }, alloc, key, world, packages),
+        Err(error) => Err(error),
+    }
 }

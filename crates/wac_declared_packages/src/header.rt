@@ -4,7 +4,8 @@ ghost use Rattle.wac_ast.specs.Statements.{document_of, statement_of};
 ghost use Rattle.wac_ast_base.specs.Names.{package_name_of, package_path_of};
 ghost use Rattle.wac_graph.specs.Package.{key_of as key_in};
 ghost use Rattle.wac_resolution_rules.specs.Given.{key_named};
-ghost use Rattle.wac_declared_packages.specs.Refusing.{IsDeclaration, Unfit, other_place as place_of_other, first_other as first_other_among};
+ghost use Rattle.wac_declared_packages.specs.Refusing.{IsDeclaration, IsUnread, Unfit, other_place as place_of_other, first_other as first_other_among};
+ghost use Rattle.wac_declared_packages.specs.Together.{declared_key};
 ghost use Rattle.wac_declared_packages.specs.declared.error.DeclarationError.TheVariants as errors;
 
 use crate::causes::of_parsing;
@@ -79,7 +80,7 @@ fn target_place(directive: &PackageDirective<'_>) -> Option<SourceSpan>
 }
 
 /// Rejects what a declaration of a package may not have: a target, and other statements than type statements.
-pub(crate) fn test_declaration(page: Page<'_, '_>) -> Result<(), DeclarationError>
+fn test_declaration(page: Page<'_, '_>) -> Result<(), DeclarationError>
     ensures ok { OnOk result (IsDeclaration (document_of page.entry)) }
     ensures err { IfErr result (Unfit (document_of page.entry)) }
 {
@@ -96,19 +97,53 @@ pub(crate) fn test_declaration(page: Page<'_, '_>) -> Result<(), DeclarationErro
     }
 }
 
-/// What a document says of itself.
-fn header_of(page: Page<'_, '_>, alloc: Global) -> Result<Header, DeclarationError> {
+/// The key of the package that a document declares, if the document is a declaration.
+pub(crate) fn tested_key(page: Page<'_, '_>, alloc: Global) -> Result<PackageKey, DeclarationError>
+    ensures key { IfOk result (λ k. key_in k ≡ declared_key (document_of page.entry)) }
+    ensures fits { IfOk result (λ _. IsDeclaration (document_of page.entry)) }
+    ensures err { IfErr result (IsUnread (document_of page.entry)) }
+{
     let Page { document } = page;
     test_declaration(Page { document })?;
     let name = &document.directive.package;
-    let place = name.span;
     let key = key_of(alloc, name)?;
-    let mentioned = packages(alloc, document)?;
-    Ok(Header {
-        key,
-        place,
-        mentioned,
-    })
+    Ok(key)
+}
+
+/// The packages that a document mentions, each with the place of its first mention.
+fn mentioned_by(
+    page: Page<'_, '_>,
+    alloc: Global,
+) -> Result<IndexMap<PackageKey, SourceSpan>, AllocError> {
+    let Page { document } = page;
+    packages(alloc, document)
+}
+
+/// The header of a document with this key, whose package's name is in that place.
+fn header_with(
+    page: Page<'_, '_>,
+    alloc: Global,
+    key: PackageKey,
+    place: SourceSpan,
+) -> Result<Header, DeclarationError> {
+    match mentioned_by(page, alloc) {
+        Ok(mentioned) => Ok(Header {
+            key,
+            place,
+            mentioned,
+        }),
+        Err(refused) => Err(DeclarationError::Memory(refused)),
+    }
+}
+
+/// What a document says of itself.
+fn header_of(page: Page<'_, '_>, alloc: Global) -> Result<Header, DeclarationError> {
+    let Page { document } = page;
+    let place = document.directive.package.span;
+    match tested_key(Page { document }, alloc) {
+        Ok(key) => header_with(Page { document }, alloc, key, place),
+        Err(error) => Err(error),
+    }
 }
 
 /// What a text says of itself.

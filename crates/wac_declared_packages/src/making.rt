@@ -32,9 +32,13 @@ fn declared_by(
     ensures { IfOk result (λ p. IsFrom sources.now (key_in p.0) p.1) }
 {
     let Page { document } = page;
-    let key = key_of(alloc, &document.directive.package)?;
-    let world = world_of(sources, &key);
-    declared_package(Page { document }, alloc, world, packages)
+    match key_of(alloc, &document.directive.package) {
+        Ok(key) => {
+            let world = world_of(sources, &key);
+            declared_package(Page { document }, alloc, world, packages)
+        }
+        Err(refused) => Err(DeclarationError::Memory(refused)),
+    }
 }
 
 /// The package that one of the texts declares, with these packages.

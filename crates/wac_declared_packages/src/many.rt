@@ -1,5 +1,5 @@
 //! The packages that many texts declare.
-ghost use Rattle.std.specs.Prelude.{◌≡◌, IfOk, vec_len};
+ghost use Rattle.std.specs.Prelude.{◌≡◌, IfOk, OnOk, vec_len};
 ghost use Rattle.wac_declared_packages.specs.Together.{AreDeclared, AreFrom, IsWhole, now_of};
 
 use crate::cycles::reject_cycles;
@@ -30,6 +30,20 @@ struct Work {
     outlines: Outlines,
 }
 
+/// Rejects the first text of each cycle, and a text whose package is lacking where there is no fault.
+fn reject_unmade(
+    alloc: Global,
+    sources: &Sources<'_>,
+    outlines: &mut Outlines,
+    packages: &IndexMap<PackageKey, Package>,
+) -> Result<(), AllocError>
+    ensures { OnOk result (vec_len outlines.new.faults ≡ 0
+        → IsWhole (now_of sources.now.texts.now) packages.now.entries) }
+{
+    reject_cycles(outlines, packages)?;
+    reject_lacking(alloc, sources, outlines, packages)
+}
+
 /// Makes the packages of texts, and rejects those that have none.
 fn declare(alloc: Global, sources: &Sources<'_>) -> Result<Work, AllocError>
     ensures declared { IfOk result (λ work. AreFrom sources.now work.packages.entries) }
@@ -38,8 +52,7 @@ fn declare(alloc: Global, sources: &Sources<'_>) -> Result<Work, AllocError>
 {
     let mut outlines = Outlines::of_texts(alloc, sources.texts)?;
     let packages = make_all(alloc, &mut outlines, sources)?;
-    reject_cycles(&mut outlines, &packages)?;
-    reject_lacking(alloc, sources, &mut outlines, &packages)?;
+    reject_unmade(alloc, sources, &mut outlines, &packages)?;
     Ok(Work { packages, outlines })
 }
 

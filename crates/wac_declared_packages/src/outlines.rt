@@ -63,16 +63,30 @@ impl Outlines {
         Ok(false)
     }
 
+    /// Notes the same of a key that is copied.
+    fn note_copy(
+        &mut self,
+        alloc: Global,
+        key: &PackageKey,
+        text: usize,
+    ) -> Result<bool, AllocError> {
+        let key = copied_key(alloc, key)?;
+        self.note_key(key, text)
+    }
+
     /// Adds a header, unless an earlier text declares its package.
     fn add_header(&mut self, alloc: Global, text: usize, header: Header) -> Result<(), AllocError> {
-        let key = copied_key(alloc, &header.key)?;
-        if self.note_key(key, text)? {
-            let place = header.place;
-            self.headers.push(None)?;
-            return self.reject(text, DeclarationError::DeclaredTwice(place));
+        if self.note_copy(alloc, &header.key, text)? {
+            return self.add_repeated(text, header.place);
         }
         self.headers.push(Some(header))?;
         Ok(())
+    }
+
+    /// Adds a text whose package an earlier text declares. Its package's name is in that place.
+    fn add_repeated(&mut self, text: usize, place: SourceSpan) -> Result<(), AllocError> {
+        self.headers.push(None)?;
+        self.reject(text, DeclarationError::DeclaredTwice(place))
     }
 
     /// Adds a fault.
