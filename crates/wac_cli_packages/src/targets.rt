@@ -7,11 +7,10 @@ use crate::worlds::{Wanted, wanted_world};
 use std::alloc::{AllocError, Global};
 use std::io::Write;
 use wac_cli_console::{Action, Console, Outcome, Status};
-use wac_component_reading::{Converted, component_package};
+use wac_component_reading::{Converted, component_package, misfit};
 use wac_diagnostics::Diagnostic;
 use wac_files::{FileError, FileSystem};
 use wac_graph::Package;
-use wac_package_comparison::misfit;
 
 /// What was read of two files: of a component, and of the document that declares a world.
 type Read = (Result<Vec<u8>, FileError>, Result<Vec<u8>, FileError>);

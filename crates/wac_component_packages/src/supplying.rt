@@ -5,9 +5,9 @@ use indexmap::IndexMap;
 use std::alloc::{AllocError, Global};
 use std::io::Write;
 use wac_cli_console::{Console, Outcome, Report};
+use wac_component_reading::difference;
 use wac_diagnostics::Diagnostic;
 use wac_graph::{Package, PackageError, PackageKey};
-use wac_package_comparison::difference;
 
 /// The packages that documents declare, and the files of packages, to which those of components are added.
 #[derive(Drop)]

@@ -1,11 +1,11 @@
 // Reading components as packages.
+use crate::defined::{defined_world, with_defined_world, with_root};
 use crate::errors::{conversion_diagnostic, decode_diagnostic, no_such_world};
 use std::alloc::{AllocError, Global};
 use wac_components::{Decoded, Limits, decode};
 use wac_components_package::{ConversionError, package_of};
 use wac_diagnostics::Diagnostic;
 use wac_graph_types::{Package, PackageError};
-use wac_package_comparison::{defined_world, with_defined_world, with_root};
 
 /// How many steps it may take to write or to convert what is decoded.
 pub const STEPS: u64 = 10_000_000;
