@@ -2,14 +2,13 @@
 use Rattle.std.specs.Prelude.{◌≡◌, ◌≢◌, ◌⊎◌, ℕ, ◌==◌, List, Option, Some, None, if◌then◌else◌}
 use Rattle.wac_lexer.specs.Span.{Span}
 use Rattle.wac_calls.specs.Calls.{Answered}
-use Rattle.wac_calls.specs.Numbers.{word_number}
+use Rattle.wac_calls.specs.Compositions.{ComesToGraph}
+use Rattle.wac_calls.specs.Numbers.{status_number, word_number}
+use Rattle.wac_calls.specs.Told.{Told}
+use Rattle.wac_calls.specs.declared.answer.Answer.{Answer}
+use Rattle.wac_calls.specs.declared.answer.Status.TheVariants.{Unknown}
 use Rattle.wac_calls.specs.declared.calls.Task.{Task}
 use Rattle.wac_calls.specs.declared.word.Word.{Word}
-use Rattle.wac_calls_answers.specs.Numbers.{status_number}
-use Rattle.wac_calls_answers.specs.Told.{Told}
-use Rattle.wac_calls_answers.specs.declared.answer.Answer.{Answer}
-use Rattle.wac_calls_answers.specs.declared.answer.Status.TheVariants.{Unknown}
-use Rattle.wac_calls_graphs.specs.Compositions.{ComesToGraph}
 use Rattle.wac_c.specs.declared.answer.WacAnswer.{WacAnswer}
 
 -- the limit of nested brackets that is meant

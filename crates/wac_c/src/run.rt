@@ -4,8 +4,7 @@ ghost use Rattle.wac_c.specs.Told.{limit_of, Graphs, Runs};
 
 use crate::answer::{WacAnswer, told, unknown};
 use std::alloc::Global;
-use wac_calls::{DEFAULT_LIMIT, Task, call, word_of};
-use wac_calls_graphs::{Composition, graph};
+use wac_calls::{Composition, DEFAULT_LIMIT, Task, call, graph, word_of};
 
 /// The limit of nested brackets that is meant: 0 stands for the usual one.
 fn limit_of(limit: usize) -> usize

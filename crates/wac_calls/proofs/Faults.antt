@@ -2,10 +2,10 @@
 use Rattle.std.proofs.Common.{ℕ, List, inl, inr}
 use Rattle.wac_ast.specs.Document.{ErrorOf}
 use Rattle.wac_ast_base.specs.Error.{Told}
-use Rattle.wac_calls_answers.specs.Rejecting.{IsOfError}
+use Rattle.wac_calls.specs.Rejecting.{IsOfError}
 use Rattle.wac_calls.specs.Tidying.{IsNotKept, SaysTidy}
-use Rattle.wac_calls_answers.specs.declared.outcome.Outcome.{Outcome}
-use Rattle.wac_calls_answers.specs.declared.outcome.Outcome.TheVariants.{Written, Rejected, NotUtf8, OutOfMemory, NestedTooDeep, BadPackage}
+use Rattle.wac_calls.specs.declared.outcome.Outcome.{Outcome}
+use Rattle.wac_calls.specs.declared.outcome.Outcome.TheVariants.{Written, Rejected, NotUtf8, OutOfMemory, NestedTooDeep, BadPackage}
 
 -- tidying a text with an error of parsing
 pub tidy_fault : (source : List ℕ) (e : Told) (outcome : Outcome) → ErrorOf e source → IsOfError e outcome → SaysTidy source outcome

@@ -1,3 +1,6 @@
 pub mod Failing
 pub mod Faults
+pub mod FirstFrames
+pub mod GraphFaults
+pub mod Graphing
 pub mod Words

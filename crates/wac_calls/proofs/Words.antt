@@ -4,7 +4,7 @@ use Rattle.std.specs.Prelude.{◌≢◌, IsUtf8}
 use Rattle.wac_tool.specs.declared.command.Command.TheVariants.{Tokens, Fmt, Json, Resolve, Packages, Check}
 use Rattle.wac_calls.specs.Calls.{Says}
 use Rattle.wac_calls.specs.Numbers.{word_number}
-use Rattle.wac_calls_answers.specs.declared.outcome.Outcome.TheVariants.{NotUtf8}
+use Rattle.wac_calls.specs.declared.outcome.Outcome.TheVariants.{NotUtf8}
 use Rattle.wac_calls.specs.declared.word.Word.{Word}
 use Rattle.wac_calls.specs.declared.word.Word.TheVariants.{Wac, Tidy, Errors}
 

@@ -1,8 +1,8 @@
 -- What a call of a word comes to.
 use Rattle.std.specs.Prelude.{◌⊎◌, ℕ, List, IsUtf8}
-use Rattle.wac_calls_answers.specs.Told.{IsFlat, IsNoText, IsTooDeep, Told}
-use Rattle.wac_calls_answers.specs.declared.answer.Answer.{Answer}
-use Rattle.wac_calls_answers.specs.declared.outcome.Outcome.{Outcome}
+use Rattle.wac_calls.specs.Told.{IsFlat, IsNoText, IsTooDeep, Told}
+use Rattle.wac_calls.specs.declared.answer.Answer.{Answer}
+use Rattle.wac_calls.specs.declared.outcome.Outcome.{Outcome}
 use Rattle.wac_calls.specs.Commands.{SaysCommand}
 use Rattle.wac_calls.specs.Errors.{SaysErrors}
 use Rattle.wac_calls.specs.Tidying.{SaysTidy}

@@ -4,8 +4,8 @@ use Rattle.wac_tool.specs.Running.{Refuses, Writes}
 use Rattle.wac_tool.specs.declared.command.Command.{Command}
 use Rattle.wac_tool.specs.declared.error.RunError.{RunError}
 use Rattle.wac_tool.specs.declared.error.RunError.TheVariants as errors
-use Rattle.wac_calls_answers.specs.declared.outcome.Outcome.{Outcome}
-use Rattle.wac_calls_answers.specs.declared.outcome.Outcome.TheVariants.{Written, Rejected, NotUtf8, OutOfMemory, NestedTooDeep, BadPackage}
+use Rattle.wac_calls.specs.declared.outcome.Outcome.{Outcome}
+use Rattle.wac_calls.specs.declared.outcome.Outcome.TheVariants.{Written, Rejected, NotUtf8, OutOfMemory, NestedTooDeep, BadPackage}
 
 -- the command writes this of the source, or rejects it so
 abbrev pub SaysCommand : Command → List ℕ → Outcome → Type 0

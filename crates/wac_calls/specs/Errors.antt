@@ -6,8 +6,8 @@ use Rattle.wac_diagnostics.specs.declared.diagnostic.Diagnostic.{Diagnostic}
 use Rattle.wac_first_error.specs.Reading.{IsNotUtf8, IsMarked}
 use Rattle.wac_first_error.specs.Findings.{IsOfText}
 use Rattle.wac_first_error.specs.Verdicts.{IsGood, IsUnresolved}
-use Rattle.wac_calls_answers.specs.declared.outcome.Outcome.{Outcome}
-use Rattle.wac_calls_answers.specs.declared.outcome.Outcome.TheVariants.{Written, Rejected, NotUtf8, OutOfMemory, NestedTooDeep, BadPackage}
+use Rattle.wac_calls.specs.declared.outcome.Outcome.{Outcome}
+use Rattle.wac_calls.specs.declared.outcome.Outcome.TheVariants.{Written, Rejected, NotUtf8, OutOfMemory, NestedTooDeep, BadPackage}
 
 -- the bytes have no error that is asked for: they are a document that breaks no rule, or one that mentions foreign
 -- packages

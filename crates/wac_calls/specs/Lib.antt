@@ -1,5 +1,15 @@
+pub mod Answers
 pub mod Calls
 pub mod Commands
+pub mod Compositions
 pub mod Errors
+pub mod Feed
+pub mod Frames
+pub mod Graphs
+pub mod Nesting
 pub mod Numbers
+pub mod Packages
+pub mod Rejecting
+pub mod Room
 pub mod Tidying
+pub mod Told

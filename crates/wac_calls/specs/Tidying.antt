@@ -9,9 +9,9 @@ use Rattle.wac_comments.specs.declared.error.TidyError.{TidyError}
 use Rattle.wac_comments.specs.declared.options.Indent.TheVariants.{Blanks}
 use Rattle.wac_comments.specs.declared.options.LineEnd.TheVariants.{Lf}
 use Rattle.wac_comments.specs.declared.options.Options.{Options}
-use Rattle.wac_calls_answers.specs.Rejecting.{IsFaultOf}
-use Rattle.wac_calls_answers.specs.declared.outcome.Outcome.{Outcome}
-use Rattle.wac_calls_answers.specs.declared.outcome.Outcome.TheVariants.{Written, Rejected, NotUtf8, OutOfMemory, NestedTooDeep, BadPackage}
+use Rattle.wac_calls.specs.Rejecting.{IsFaultOf}
+use Rattle.wac_calls.specs.declared.outcome.Outcome.{Outcome}
+use Rattle.wac_calls.specs.declared.outcome.Outcome.TheVariants.{Written, Rejected, NotUtf8, OutOfMemory, NestedTooDeep, BadPackage}
 
 -- four blanks for a level, and LF
 abbrev pub layout : Options

@@ -2,13 +2,14 @@
 ghost use Rattle.std.specs.Prelude.{IsUtf8};
 ghost use Rattle.wac_calls.specs.Calls.{Answered, Comes, Says};
 
+use crate::answer::{Answer, tell};
 use crate::commands::commanded;
 use crate::first_errors::first_errors;
+use crate::nesting::first_deeper;
+use crate::outcome::Outcome;
 use crate::tidying::tidied;
 use crate::word::Word;
 use std::alloc::Global;
-use wac_calls_answers::{Answer, Outcome, tell};
-use wac_calls_texts::first_deeper;
 
 /// The limit of nested brackets for callers who have no reason for another one. A thread with a stack of 512 KB
 /// suffices for it.

@@ -3,9 +3,9 @@ ghost use Rattle.std.specs.Prelude.{IfOk, IfErr};
 ghost use Rattle.wac_tool.specs.Running.{Writes};
 ghost use Rattle.wac_calls.specs.Commands.{Fails, SaysCommand, SaysFailed};
 
+use crate::feed::Text;
+use crate::outcome::Outcome;
 use std::alloc::Global;
-use wac_calls_answers::Outcome;
-use wac_calls_texts::Text;
 use wac_lexer::Bytes;
 use wac_tool::{Command, RunError, run};
 

@@ -3,8 +3,8 @@ ghost use Rattle.std.specs.Prelude.{IfOk, true};
 ghost use Rattle.wac_first_error.specs.Verdicts.{IsVerdict};
 ghost use Rattle.wac_calls.specs.Errors.{IsLine, SaysErrors};
 
+use crate::outcome::Outcome;
 use std::alloc::{AllocError, Global};
-use wac_calls_answers::Outcome;
 use wac_diagnostics::{Diagnostic, json};
 use wac_first_error::{Verdict, first_error};
 

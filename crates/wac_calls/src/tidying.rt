@@ -1,8 +1,9 @@
 // Tidying.
 ghost use Rattle.wac_calls.specs.Tidying.{IsNotKept, SaysTidy, SaysUntidied};
 
+use crate::diagnostics::unparsed;
+use crate::outcome::Outcome;
 use std::alloc::Global;
-use wac_calls_answers::{Outcome, unparsed};
 use wac_comments::{Options, TidyError, tidy};
 
 /// What tidying comes to for a text, with four blanks for a level, and LF.

@@ -2,8 +2,7 @@
 use crate::calls::rooms::{line, push_difference, room};
 use std::alloc::{AllocError, Global};
 use std::test::Fail;
-use wac_calls::DEFAULT_LIMIT;
-use wac_calls_graphs::{Composition, graph};
+use wac_calls::{Composition, DEFAULT_LIMIT, graph};
 
 /// A document, the texts of packages, how much is cut from the end of their frames, and what the call leaves.
 struct Row {

@@ -1,6 +1,6 @@
 use Rattle.std.proofs.Common.{ℕ, subst}
-use Rattle.wac_calls_answers.specs.Told.{Told}
-use Rattle.wac_calls_graphs.specs.Compositions.{ComesToGraph}
+use Rattle.wac_calls.specs.Told.{Told}
+use Rattle.wac_calls.specs.Compositions.{ComesToGraph}
 use Rattle.wac_c.proofs.run.wac_graph.Goals as goal
 
 pub returns : goal.returns

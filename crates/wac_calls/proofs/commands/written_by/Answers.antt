@@ -1,6 +1,6 @@
 use Rattle.std.proofs.Common.{◌∙◌, ap}
 use Rattle.wac_lexer.specs.Device.{Kept}
-use Rattle.wac_calls_texts.specs.Feed.{Reading}
+use Rattle.wac_calls.specs.Feed.{Reading}
 use Rattle.wac_calls.proofs.Failing.{fails_of, writes_of}
 use Rattle.wac_calls.proofs.commands.written_by.Goals as goal
 

@@ -1,4 +1,0 @@
-pub mod Answers
-pub mod Numbers
-pub mod Rejecting
-pub mod Told

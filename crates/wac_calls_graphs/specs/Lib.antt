@@ -1,2 +1,0 @@
-pub mod Compositions
-pub mod Graphs
