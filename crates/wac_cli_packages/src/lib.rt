@@ -2,7 +2,8 @@
 //!
 //! [`check_with_packages`] is `wacx check --packages`, [`list_packages`] is `wacx packages`,
 //! [`show_graph_with_packages`] is `wacx graph --packages`, and [`check_target`] is `wacx targets`. Documents declare
-//! packages, or components have them; `docs/PACKAGES.md` says how.
+//! packages, or components have them; `docs/PACKAGES.md` says how. [`show_graph`] is `wacx graph` without packages, of a
+//! document that mentions no foreign one.
 #![tactic(auto)]
 
 mod checking;
@@ -11,6 +12,7 @@ mod graphs;
 mod listing;
 mod options;
 mod reading;
+mod showing;
 mod sources;
 mod supply;
 mod targets;
@@ -21,5 +23,6 @@ pub use checking::check_with_packages;
 pub use graphing::show_graph_with_packages;
 pub use listing::list_packages;
 pub use options::Given;
+pub use showing::show_graph;
 pub use targets::check_target;
 pub use wac_graph_outputs::Form;

@@ -6,9 +6,9 @@ use std::test::Fail;
 use wac_cli::check_paths;
 use wac_cli_components::{PackageForm, show_package};
 use wac_cli_console::{Console, Report, Status};
-use wac_cli_graph::show_graph;
 use wac_cli_packages::{
-    Form, Given, check_target, check_with_packages, list_packages, show_graph_with_packages,
+    Form, Given, check_target, check_with_packages, list_packages, show_graph,
+    show_graph_with_packages,
 };
 use wac_files::MemoryFiles;
 

@@ -4,7 +4,7 @@ use std::alloc::{AllocError, Global};
 use wac_cli::{FormatOptions, LineEnds};
 use wac_cli_components::{PackageForm, is_package_key};
 use wac_cli_console::{Action, Report};
-use wac_cli_graph::Form;
+use wac_cli_packages::Form;
 use wac_comments::Indent;
 
 /// The version of the program.

@@ -8,9 +8,8 @@ use std::{env, process};
 use wac_cli::{check_input, check_paths, format_input, format_paths};
 use wac_cli_components::show_package;
 use wac_cli_console::{Console, Report, Status};
-use wac_cli_graph::show_graph;
 use wac_cli_packages::{
-    Given, check_target, check_with_packages, list_packages, show_graph_with_packages,
+    Given, check_target, check_with_packages, list_packages, show_graph, show_graph_with_packages,
 };
 use wac_files::Disk;
 
