@@ -3,7 +3,7 @@ ghost use Rattle.std.specs.Prelude.{◌<◌, length};
 
 use indexmap::IndexMap;
 use std::alloc::{AllocError, Global};
-use wac_graph::{CompositionGraph, NodeId, NodeKind, PackageId, PackageKey};
+use wac_graph::{CompositionGraph, ItemKind, NodeId, NodeKind, PackageId, PackageKey};
 use wac_lexer::SourceSpan;
 
 /// The instance and the export that an alias is of.
@@ -90,6 +90,24 @@ fn arguments_of(
     Ok(arguments)
 }
 
+/// Those of some imports that an instance is given nothing for.
+fn open_among(
+    alloc: Global,
+    graph: &CompositionGraph,
+    id: NodeId,
+    imports: &IndexMap<String, ItemKind>,
+) -> Result<Vec<(String, &'static str)>, AllocError>
+    requires { id.0 < length graph.now.nodes }
+{
+    let mut open = Vec::new(alloc);
+    for (name, kind) in imports.iter() {
+        if graph.argument(id, name.as_str()).is_none() {
+            open.push((String::from_str(alloc, name.as_str())?, kind.desc()))?;
+        }
+    }
+    Ok(open)
+}
+
 /// The imports of a package that an instance of it is given nothing for.
 fn open_of(
     alloc: Global,
@@ -100,17 +118,11 @@ fn open_of(
     requires node { id.0 < length graph.now.nodes }
     requires package { «package».0 < length graph.now.packages }
 {
-    let mut open = Vec::new(alloc);
     let world = graph.package(package).world;
-    let Some(imports) = graph.types().imports(world) else {
-        return Ok(open);
-    };
-    for (name, kind) in imports.iter() {
-        if graph.argument(id, name.as_str()).is_none() {
-            open.push((String::from_str(alloc, name.as_str())?, kind.desc()))?;
-        }
+    match graph.types().imports(world) {
+        None => Ok(Vec::new(alloc)),
+        Some(imports) => open_among(alloc, graph, id, imports),
     }
-    Ok(open)
 }
 
 /// What a node is an alias of.
@@ -174,6 +186,62 @@ fn texts_of(alloc: Global, graph: &CompositionGraph, id: NodeId) -> Result<Texts
     })
 }
 
+/// What leads from a node to others, and what it leaves open.
+#[derive(Drop)]
+struct Edges {
+    source: Option<Source>,
+    arguments: Vec<(String, usize)>,
+    open: Vec<(String, &'static str)>,
+}
+
+/// What a node is an alias of, its arguments, and what it leaves open.
+fn edges_of(alloc: Global, graph: &CompositionGraph, id: NodeId) -> Result<Edges, AllocError>
+    requires { id.0 < length graph.now.nodes }
+{
+    let source = source_of(alloc, graph, id)?;
+    let arguments = arguments_of(alloc, graph, id)?;
+    let open = open_at(alloc, graph, id)?;
+    Ok(Edges {
+        source,
+        arguments,
+        open,
+    })
+}
+
+/// What is shown of a node with these texts and edges.
+fn row_of(
+    graph: &CompositionGraph,
+    id: NodeId,
+    places: &IndexMap<String, SourceSpan>,
+    texts: Texts,
+    edges: Edges,
+) -> NodeRow
+    requires { id.0 < length graph.now.nodes }
+{
+    let Texts {
+        name,
+        package,
+        import,
+    } = texts;
+    let Edges {
+        source,
+        arguments,
+        open,
+    } = edges;
+    let place = place_of(places, &name);
+    NodeRow {
+        kind: kind_word(graph.node(id)),
+        name,
+        place,
+        package,
+        item: graph.kind(id).desc(),
+        import,
+        source,
+        arguments,
+        open,
+    }
+}
+
 /// What is shown of a node.
 pub(crate) fn row(
     alloc: Global,
@@ -183,25 +251,9 @@ pub(crate) fn row(
 ) -> Result<NodeRow, AllocError>
     requires { id.0 < length graph.now.nodes }
 {
-    let Texts {
-        name,
-        package,
-        import,
-    } = texts_of(alloc, graph, id)?;
-    let place = place_of(places, &name);
-    let mut row = NodeRow {
-        kind: kind_word(graph.node(id)),
-        name,
-        place,
-        package,
-        item: graph.kind(id).desc(),
-        import,
-        source: None,
-        arguments: Vec::new(alloc),
-        open: Vec::new(alloc),
-    };
-    row.source = source_of(alloc, graph, id)?;
-    row.arguments = arguments_of(alloc, graph, id)?;
-    row.open = open_at(alloc, graph, id)?;
-    Ok(row)
+    let texts = texts_of(alloc, graph, id)?;
+    match edges_of(alloc, graph, id) {
+        Ok(edges) => Ok(row_of(graph, id, places, texts, edges)),
+        Err(refused) => Err(refused),
+    }
 }
