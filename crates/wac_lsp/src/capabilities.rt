@@ -1,45 +1,100 @@
 //! What the server can do.
 use crate::tokens::legend;
-use serde_json::{Value, json};
+use serde_json::{Map, Value, json, put};
 use std::alloc::{AllocError, Global};
 use wac_lsp_messages::Features;
 
 /// The number of the way in which a client tells changes: by ranges.
 const INCREMENTAL: u8 = 2;
 
-/// What the server can do for a client of these features, in a line for each method, with columns in bytes or in units of
-/// UTF-16.
+/// What the server does for any client, in a line for each method.
+static PROVIDERS: [&'static str; 10] = [
+    "documentFormattingProvider",
+    "documentRangeFormattingProvider",
+    "documentSymbolProvider",
+    "workspaceSymbolProvider",
+    "foldingRangeProvider",
+    "selectionRangeProvider",
+    "definitionProvider",
+    "referencesProvider",
+    "documentHighlightProvider",
+    "hoverProvider",
+];
+
+/// What the server can do for a client of these features, with columns in bytes or in units of UTF-16.
 pub(crate) fn capabilities(
     alloc: Global,
     counts_bytes: bool,
     features: Features,
 ) -> Result<Value, AllocError> {
     let encoding = if counts_bytes { "utf-8" } else { "utf-16" };
-    let sync = json!(in alloc; {"openClose": true, "change": INCREMENTAL})?;
-    let actions = actions_provider(alloc, features)?;
-    let renames = renames_provider(alloc, features)?;
-    let completion = completion_provider(alloc)?;
-    let tokens = tokens_provider(alloc)?;
-    let workspace = workspace_capabilities(alloc)?;
-    json!(in alloc; {
-        "positionEncoding": encoding,
-        "textDocumentSync": sync,
-        "documentFormattingProvider": true,
-        "documentRangeFormattingProvider": true,
-        "documentSymbolProvider": true,
-        "workspace": workspace,
-        "workspaceSymbolProvider": true,
-        "foldingRangeProvider": true,
-        "selectionRangeProvider": true,
-        "definitionProvider": true,
-        "referencesProvider": true,
-        "documentHighlightProvider": true,
-        "hoverProvider": true,
-        "renameProvider": renames,
-        "codeActionProvider": actions,
-        "completionProvider": completion,
-        "semanticTokensProvider": tokens
-    })
+    let mut all = Map::new(alloc);
+    put_text(alloc, &mut all, "positionEncoding", encoding)?;
+    put_providers(alloc, &mut all)?;
+    put_options(alloc, &mut all)?;
+    put_features(alloc, &mut all, features)?;
+    Ok(Value::Object(all))
+}
+
+/// Puts a text into an object.
+fn put_text(
+    alloc: Global,
+    all: &mut Map<String, Value>,
+    name: &str,
+    text: &str,
+) -> Result<(), AllocError> {
+    put(all, alloc, name, Value::try_from_str(alloc, text)?)
+}
+
+/// Puts in what the server does without further ado.
+fn put_providers(alloc: Global, all: &mut Map<String, Value>) -> Result<(), AllocError> {
+    for name in &PROVIDERS {
+        put(all, alloc, *name, Value::Bool(true))?;
+    }
+    Ok(())
+}
+
+/// Puts in what the server does in ways that are told.
+fn put_options(alloc: Global, all: &mut Map<String, Value>) -> Result<(), AllocError> {
+    put(all, alloc, "textDocumentSync", sync_options(alloc)?)?;
+    put(all, alloc, "workspace", workspace_capabilities(alloc)?)?;
+    put(
+        all,
+        alloc,
+        "completionProvider",
+        completion_provider(alloc)?,
+    )?;
+    put(
+        all,
+        alloc,
+        "semanticTokensProvider",
+        tokens_provider(alloc)?,
+    )
+}
+
+/// Puts in what depends on the features of the client.
+fn put_features(
+    alloc: Global,
+    all: &mut Map<String, Value>,
+    features: Features,
+) -> Result<(), AllocError> {
+    put(
+        all,
+        alloc,
+        "renameProvider",
+        renames_provider(alloc, features)?,
+    )?;
+    put(
+        all,
+        alloc,
+        "codeActionProvider",
+        actions_provider(alloc, features)?,
+    )
+}
+
+/// How a client tells that documents are opened, closed and changed.
+fn sync_options(alloc: Global) -> Result<Value, AllocError> {
+    json!(in alloc; {"openClose": true, "change": INCREMENTAL})
 }
 
 /// What the server takes of folders: that the client opens and closes them.
