@@ -21,11 +21,7 @@ use wac_resolution_state::{State, kind_of};
 use wac_resolution_worlds::{interface, new_func};
 
 /// The kind of a function whose type is written in place.
-fn func_kind(
-    state: &mut State,
-    root: &Root<'_>,
-    func: &FuncType<'_>,
-) -> Result<ItemKind, Error>
+fn func_kind(state: &mut State, root: &Root<'_>, func: &FuncType<'_>) -> Result<ItemKind, Error>
     requires { ItemsNamed state.old.graph.types (values_of root.now.kinds) }
     ensures ok { IfOk result (FuncMade state.old.graph state.new.graph root.now (func_type_of func.now)) }
     ensures err { ErrorSays result (FuncTypeBreaks state.old.graph root.now (func_type_of func.now)) }
