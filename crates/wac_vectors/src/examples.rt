@@ -74,14 +74,22 @@ static CALLS: [(Call, &str, &str); 24] = [
         "package a:b@1.0.0; import x: a:b/i@2.0.0; let y = new a:b@3.0.0 {}; export y;",
         "",
     ),
-    (Call::Missing, "package a:b; import x: %a:b/i;", "%a:b at 23+4\n"),
+    (
+        Call::Missing,
+        "package a:b; import x: %a:b/i;",
+        "%a:b at 23+4\n",
+    ),
     // With a version and without one they are two packages.
     (
         Call::Missing,
         "package a:b; let x = new c:d {}; let y = new c:d@1.0.0 {}; let z = new c:d {};",
         "c:d at 25+3\nc:d@1.0.0 at 45+9\n",
     ),
-    (Call::Missing, "package a:b; interface i { use c:d/e.{t}; }", "c:d at 31+3\n"),
+    (
+        Call::Missing,
+        "package a:b; interface i { use c:d/e.{t}; }",
+        "c:d at 31+3\n",
+    ),
     (
         Call::Missing,
         "package a:b; world w { include c:d/e; use f:g/h.{t}; import i:j/k; export l:m/n@0.2.0; }",
@@ -130,7 +138,11 @@ static CALLS: [(Call, &str, &str); 24] = [
         "package example:app;\nimport log: func();\nlet cache = new example:cache { log };\nexport cache.get;\n",
         "",
     ),
-    (Call::ErrorWithCache, FAULTY, "61+3: expected `,`, found `...`"),
+    (
+        Call::ErrorWithCache,
+        FAULTY,
+        "61+3: expected `,`, found `...`",
+    ),
     (
         Call::ErrorWithCache,
         "package example:app;\nimport log: func(line: string);\nlet cache = new example:cache { log };\nexport cache.get;\n",

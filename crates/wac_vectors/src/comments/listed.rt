@@ -14,35 +14,29 @@ static LISTED: [(&str, Option<Comments>); 7] = [
     ("a \"// b\"", Some(&[])),
     (
         "// x \n/* y /* z */ */a///\n",
-        Some(
-            &[
-                (0, 5, CommentKind::Line),
-                (6, 15, CommentKind::Block),
-                (22, 3, CommentKind::Doc),
-            ],
-        ),
+        Some(&[
+            (0, 5, CommentKind::Line),
+            (6, 15, CommentKind::Block),
+            (22, 3, CommentKind::Doc),
+        ]),
     ),
     (
         "/**/ /***/ /** é */",
-        Some(
-            &[
-                (0, 4, CommentKind::Block),
-                (5, 5, CommentKind::Doc),
-                (11, 9, CommentKind::Doc),
-            ],
-        ),
+        Some(&[
+            (0, 4, CommentKind::Block),
+            (5, 5, CommentKind::Doc),
+            (11, 9, CommentKind::Doc),
+        ]),
     ),
     ("# // x\r", Some(&[(2, 5, CommentKind::Line)])),
     ("// \u{7}", None),
     (
         "package a:b; // first\nrecord r { /* x */ a: u8 // last\n}",
-        Some(
-            &[
-                (13, 8, CommentKind::Line),
-                (33, 7, CommentKind::Block),
-                (47, 7, CommentKind::Line),
-            ],
-        ),
+        Some(&[
+            (13, 8, CommentKind::Line),
+            (33, 7, CommentKind::Block),
+            (47, 7, CommentKind::Line),
+        ]),
     ),
 ];
 
