@@ -1,6 +1,5 @@
-//! Tests of `wac_comments`: documents, and what they are tidied to.
+//! Tests of `wac_comments`: the comments of texts, and what documents are tidied to, where a request for memory fails too:
+//! each test then asks once more.
 
 mod listed;
-mod memory;
-mod rows;
 mod tidied;

@@ -1,26 +1,17 @@
-//! Tests of `wac_parser` and `wac_examples`: texts that are documents, rejected, cut or long, their layout, writers and
-//! memory that fail, and mentions of packages; what the examples return for the texts that the documents show; what is in
-//! trees; and documents with comments, and what they are tidied to.
+//! Tests of `wac_parser`, `wac_examples` and `wac_comments`: what calls return, and where memory or a writer fails. What is
+//! in trees, as their JSON shows it; and the calls that parsers share.
 #![tactic(auto)]
 
 #[cfg(test)]
 mod comments;
 #[cfg(test)]
-mod cuts;
+mod documents;
 #[cfg(test)]
 mod examples;
 #[cfg(test)]
-mod layout;
-#[cfg(test)]
-mod memory;
-#[cfg(test)]
-mod packages;
-#[cfg(test)]
-mod refusals;
+mod expecting;
 #[cfg(test)]
 mod rows;
-#[cfg(test)]
-mod sizes;
 #[cfg(test)]
 mod trees;
 #[cfg(test)]

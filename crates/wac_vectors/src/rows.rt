@@ -60,32 +60,3 @@ pub(crate) static DOCUMENTS: [&str; 27] = [
     "package a:b; interface i { resource r { constructor(x: u8); m: static async func() -> borrow<r>; } }",
     "package a:b; let x = new c:d { \"e\" : y, ...z, i, };",
 ];
-
-/// Texts that have none.
-pub(crate) static OTHERS: [&str; 25] = [
-    "",
-    "package a:b; x // \u{202a}",
-    "package a:b; record r { x:u32 }",
-    "package a:b; let x = new c:d { \"e\" };",
-    "package a:b; record r { x: u32",
-    "package a:b; variant v {}",
-    "package a:b@01.0.0;",
-    "package a:b;;",
-    "package a:b; world w { ;",
-    "/* /* unterminated */",
-    "package a:b; world w { import f func(); }",
-    "package a:b; let x = new c:d { ...; };",
-    "package a:b@99999999999999999999999.0.0;",
-    "fooBar",
-    "....",
-    "x:string",
-    "package a:b; // \u{c}",
-    "package a:b; let x = y[\"\u{149}",
-    "package a:b; let x = \"s;",
-    "package a:b; let x = new c:d { \"e\" # };",
-    "package a:b@1.0.0-;",
-    "package a:b@18446744073709551616.0.0;",
-    "package a:b; interface i { f: func() -> (); }",
-    "package a:b; interface i { f: func() -> (a: u8 b: u8); }",
-    "package a:b; interface i { resource r { constructor() -> (a: u8); } }",
-];

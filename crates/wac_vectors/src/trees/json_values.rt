@@ -1,21 +1,19 @@
 //! Parts of trees that are made by hand.
 
 use semver::Version;
-use std::alloc::Global;
-use std::process::Abort;
+use std::alloc::{AllocError, Global};
 use std::test::Fail;
 use wac_parser::lexer::SourceSpan;
 use wac_parser::{DocComment, Ident, String, ToValue};
 
-/// Asserts the JSON of a value.
-fn has_json<T: ToValue>(rt: &impl Abort, alloc: Global, value: &T, json: &str) -> Result<(), Fail> {
+/// Whether a value has this JSON.
+fn has_json<T: ToValue>(alloc: Global, value: &T, json: &str) -> Result<bool, AllocError> {
     let text = value.to_value(alloc)?.to_string(alloc)?;
-    assert!(rt; text.as_str() == json, "{text} of {json}");
-    Ok(())
+    Ok(text.as_str() == json)
 }
 
-/// Asserts the JSON of parts that have a place.
-fn placed_parts(rt: &impl Abort, alloc: Global) -> Result<(), Fail> {
+/// Whether parts that have a place have their JSON.
+fn have_places(alloc: Global) -> Result<bool, AllocError> {
     let id = Ident {
         string: "a-B",
         span: SourceSpan::new(3, 4),
@@ -28,39 +26,50 @@ fn placed_parts(rt: &impl Abort, alloc: Global) -> Result<(), Fail> {
         comment: "a\nb",
         span: SourceSpan::new(0, 10),
     };
-    has_json(
-        rt,
+    let span = SourceSpan::new(usize::MAX, 0);
+    let id = has_json(
         alloc,
         &id,
         r#"{"span":{"length":4,"offset":3},"string":"a-B"}"#,
     )?;
-    has_json(
-        rt,
+    let string = has_json(
         alloc,
         &string,
         r#"{"span":{"length":2,"offset":7},"value":""}"#,
     )?;
-    has_json(
-        rt,
+    let comment = has_json(
         alloc,
         &comment,
         r#"{"comment":"a\nb","span":{"length":10,"offset":0}}"#,
-    )
+    )?;
+    let span = has_json(
+        alloc,
+        &span,
+        r#"{"length":0,"offset":18446744073709551615}"#,
+    )?;
+    Ok(id && string && comment && span)
 }
 
-/// Asserts the JSON of a list, and of what may be left out.
-fn lists_and_options(rt: &impl Abort, alloc: Global) -> Result<(), Fail> {
-    let truths = [true, false].to_vec(alloc)?;
-    has_json(rt, alloc, &truths, "[true,false]")?;
-    has_json(rt, alloc, &Some("x"), r#""x""#)?;
-    has_json(rt, alloc, &None::<&str>, "null")
+/// Whether what may be left out and a version have their JSON.
+fn have_texts(alloc: Global) -> Result<bool, AllocError> {
+    let text = "0.0.18446744073709551615-rc.1+build.7";
+    let is_version = match Version::parse(alloc, text) {
+        Ok(version) => has_json(
+            alloc,
+            &version,
+            r#""0.0.18446744073709551615-rc.1+build.7""#,
+        )?,
+        Err(_) => false,
+    };
+    let is_some = has_json(alloc, &Some("x"), r#""x""#)?;
+    Ok(is_version && is_some && has_json(alloc, &None::<&str>, "null")?)
 }
 
 /// How many items a long list has.
 const MANY: usize = 300;
 
-/// Asserts the JSON of a list of many items.
-fn long_lists(rt: &impl Abort, alloc: Global) -> Result<(), Fail> {
+/// Whether a list of many items has its JSON.
+fn is_long_list(alloc: Global) -> Result<bool, AllocError> {
     let mut truths = [true].to_vec(alloc)?;
     let mut text = std::string::String::from_str(alloc, "[true")?;
     for _ in 1..MANY {
@@ -68,26 +77,16 @@ fn long_lists(rt: &impl Abort, alloc: Global) -> Result<(), Fail> {
         text.push_str(",true")?;
     }
     text.push_str("]")?;
-    has_json(rt, alloc, &truths, text.as_str())
+    has_json(alloc, &truths, text.as_str())
 }
 
 #[test]
 fn values_as_json(rt: HostRuntime) -> Result<(), Fail> {
     let alloc = rt.alloc();
-    has_json(
-        &rt,
-        alloc,
-        &SourceSpan::new(usize::MAX, 0),
-        r#"{"length":0,"offset":18446744073709551615}"#,
-    )?;
-    placed_parts(&rt, alloc)?;
-    let version = Version::parse(alloc, "0.0.18446744073709551615-rc.1+build.7")?;
-    has_json(
-        &rt,
-        alloc,
-        &version,
-        r#""0.0.18446744073709551615-rc.1+build.7""#,
-    )?;
-    lists_and_options(&rt, alloc)?;
-    long_lists(&rt, alloc)
+    assert!(rt; have_places(alloc)?);
+    assert!(rt; have_texts(alloc)?);
+    let truths = [true, false].to_vec(alloc)?;
+    assert!(rt; has_json(alloc, &truths, "[true,false]")?);
+    assert!(rt; is_long_list(alloc)?);
+    Ok(())
 }

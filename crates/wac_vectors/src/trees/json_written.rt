@@ -1,145 +1,95 @@
-//! The same trees, written as JSON part by part: into writers that take a few bytes a call, and into ones that fail.
+//! The JSON of trees: as a text, and written part by part, into writers that take a few bytes a call and into ones that fail.
 
-use crate::trees::json_texts::TEXTS;
-use std::alloc::Global;
-use std::io;
-use std::io::{ErrorKind, Write};
-use std::process::Abort;
+use crate::expecting::Expecting;
+use crate::trees::json_texts::{TEXTS, has_json};
+use std::alloc::{AllocError, Global};
+use std::io::Write;
+use std::test::Fail;
 use wac_examples::put_json;
 use wac_lexer::Out;
-use wac_parser::{Error, PrintError};
+use wac_parser::{Error, PrintError, PrintResult};
 
-/// A writer that expects a text. It takes at most `width` bytes a call, fails once it took `room`, and would then take all.
-#[derive(Drop)]
-struct Expecting {
-    text: &'static [u8],
-    width: usize,
-    room: usize,
-    taken: usize,
-    is_text: bool,
-}
-
-impl Expecting {
-    fn new(text: &'static str, width: usize, room: usize) -> Self {
-        Expecting {
-            text: text.as_bytes(),
-            width,
-            room,
-            taken: 0,
-            is_text: true,
-        }
-    }
-
-    /// What the text has after the bytes that were taken.
-    fn rest(&self) -> &'static [u8] {
-        let (_, rest) = self.text.split_at(self.taken.min(self.text.len()));
-        rest
-    }
-
-    /// Whether it took just the first `len` bytes of the text.
-    fn took(&self, len: usize) -> bool {
-        self.is_text && self.taken == len
-    }
-}
-
-impl Write for Expecting {
-    fn write(&mut self, buf: &[u8]) -> io::Result<usize> {
-        let n = buf.len().min(self.width).min(self.room);
-        if n == 0 {
-            self.room = usize::MAX;
-            return Err(io::Error::from(ErrorKind::BrokenPipe));
-        }
-        let (part, _) = buf.split_at(n);
-        if !self.rest().starts_with(part) {
-            self.is_text = false;
-        }
-        self.room -= n;
-        self.taken = self.taken.wrapping_add(n);
-        Ok(n)
-    }
-
-    fn flush(&mut self) -> io::Result<()> {
-        Ok(())
-    }
-}
-
-/// What became of the tree of a text that was to be written.
-#[derive(Clone, Copy)]
-enum Answer {
-    Written,
-    WriterFailed,
-    OutOfMemory,
-    Other,
-}
-
-/// Writes the tree of a text. It has no contract, so that the proofs of the tests read nothing of that of the sink.
-fn put<W: Write + Drop>(alloc: Global, source: &str, writer: W) -> Answer {
+/// Writes the tree of a text. A text that has none counts as one that can't be printed.
+///
+/// It has no contract, so that the proofs of the tests read nothing of that of the sink.
+fn put<W: Write + Drop>(alloc: Global, source: &str, writer: W) -> Result<PrintResult, AllocError> {
     match put_json(alloc, source, &mut Out::new(writer)) {
-        Ok(Ok(())) => Answer::Written,
-        Ok(Err(PrintError::Writer)) => Answer::WriterFailed,
-        Err(Error::Memory(_)) => Answer::OutOfMemory,
-        _ => Answer::Other,
+        Ok(result) => Ok(result),
+        Err(Error::Memory(_)) => Err(AllocError),
+        Err(_) => Ok(Err(PrintError::Failed)),
     }
 }
 
-/// Asserts that a writer that takes so many bytes a call is given all of the JSON of each text.
-fn are_written(rt: &impl Abort, alloc: Global, rows: &[(&str, &'static str)], width: usize) {
-    for (source, json) in rows {
-        let mut writer = Expecting::new(json, width, usize::MAX);
-        let answer = put(alloc, source, &mut writer);
-        let is_whole = matches!(answer, Answer::Written) && writer.took(json.len());
-        assert!(rt; is_whole, "{width} bytes a call, of {source}");
+/// Whether a writer that takes so many bytes a call is given all of the JSON of a text. Where memory runs out, it has to
+/// be given nothing.
+fn is_written(
+    alloc: Global,
+    source: &str,
+    json: &'static str,
+    width: usize,
+) -> Result<bool, AllocError> {
+    let mut writer = Expecting::new(json, width, usize::MAX);
+    match put(alloc, source, &mut writer) {
+        Ok(result) => Ok(result == Ok(()) && writer.took(json.len())),
+        Err(error) => {
+            if writer.took(0) {
+                Err(error)
+            } else {
+                Ok(false)
+            }
+        }
     }
 }
 
-/// Asserts that a writer that fails after so many bytes is reported, and is given no more.
-fn stops_at(rt: &impl Abort, alloc: Global, source: &str, json: &'static str, room: usize) {
+/// The first text whose JSON is another one, or isn't written to a writer that takes so many bytes a call.
+fn first_other(alloc: Global, width: usize) -> Result<Option<&'static str>, AllocError> {
+    for (source, json) in &TEXTS {
+        if !has_json(alloc, source, json)? || !is_written(alloc, source, json, width)? {
+            return Ok(Some(*source));
+        }
+    }
+    Ok(None)
+}
+
+/// Also passes where a request for memory fails, each in turn: it then asks once more.
+#[test]
+fn trees_are_written(rt: HostRuntime) -> Result<(), Fail> {
+    for width in [usize::MAX, 1, 3] {
+        let wrong = match first_other(rt.alloc(), width) {
+            Ok(wrong) => wrong,
+            Err(AllocError) => first_other(rt.alloc(), width)?,
+        };
+        assert!(rt; wrong == None, "{width} bytes a call: {wrong:?}");
+    }
+    Ok(())
+}
+
+/// Whether a writer that fails after so many bytes is reported, and is given no more.
+fn stops_at(alloc: Global, source: &str, json: &'static str, room: usize) -> bool {
     let mut writer = Expecting::new(json, usize::MAX, room);
-    let answer = put(alloc, source, &mut writer);
-    let is_told = matches!(answer, Answer::WriterFailed);
-    assert!(rt; is_told && writer.took(room), "at {room} of {source}");
+    match put(alloc, source, &mut writer) {
+        Ok(result) => result == Err(PrintError::Writer) && writer.took(room),
+        Err(_) => false,
+    }
 }
 
-/// Asserts it for each byte of the JSON.
-fn stops_at_each(rt: &impl Abort, alloc: Global, source: &str, json: &'static str) {
+/// Whether it does after each byte of the JSON.
+fn stops_at_each(alloc: Global, source: &str, json: &'static str) -> bool {
     for room in 0..json.len() {
-        stops_at(rt, alloc, source, json, room);
+        if !stops_at(alloc, source, json, room) {
+            return false;
+        }
     }
+    true
 }
 
 /// How many bytes the JSON of a text has at most that is cut at each byte.
 const SHORT: usize = 512;
 
-/// The same for each text whose JSON is short.
-fn are_cut(rt: &impl Abort, alloc: Global, rows: &[(&str, &'static str)]) {
-    for (source, json) in rows {
-        if json.len() <= SHORT {
-            stops_at_each(rt, alloc, source, json);
-        }
-    }
-}
-
-#[test]
-fn trees_are_written(rt: HostRuntime) {
-    for width in [usize::MAX, 1, 3] {
-        are_written(&rt, rt.alloc(), &TEXTS, width);
-    }
-}
-
 #[test]
 fn a_failing_writer_holds_a_beginning(rt: HostRuntime) {
-    are_cut(&rt, rt.alloc(), &TEXTS);
-}
-
-/// Also passes where a request for memory fails, each in turn: the writer is then given nothing.
-#[test]
-fn want_of_memory_is_told_before_writing(rt: HostRuntime) {
-    let json =
-        r#"{"directive":{"package":{"name":"a:b","span":{"length":3,"offset":8},"string":"a:b","version":null}},"docs":[],"statements":[]}"#;
-    let mut writer = Expecting::new(json, usize::MAX, usize::MAX);
-    match put(rt.alloc(), "package a:b;", &mut writer) {
-        Answer::Written => assert!(rt; writer.took(json.len()), "a directive"),
-        Answer::OutOfMemory => assert!(rt; writer.took(0), "no memory"),
-        _ => panic!(rt; "refused"),
+    for (source, json) in &TEXTS {
+        let stops = json.len() > SHORT || stops_at_each(rt.alloc(), source, json);
+        assert!(rt; stops, "of {source}");
     }
 }

@@ -1,18 +1,9 @@
 //! Calls that take a callback: each result once, with the items that it leaves.
 
 use std::alloc::Global;
-use std::process::Abort;
 use wac_ast_base::{Error, ParseResult, at, has_more, parse_optional, parse_token};
 use wac_ast_types::{Type, parse_optional_payload};
 use wac_lexer::{Error as Fault, Lexer, LexerResult, SourceSpan, Token};
-
-/// A lexer of a text.
-pub(crate) fn lexer<'a>(rt: &impl Abort, source: &'a str) -> Lexer<'a> {
-    match Lexer::new(source) {
-        Ok(lexer) => lexer,
-        Err(_) => panic!(rt; "{source} is refused"),
-    }
-}
 
 /// The span of a name.
 fn name(lexer: &mut Lexer) -> ParseResult<SourceSpan> {
@@ -20,15 +11,15 @@ fn name(lexer: &mut Lexer) -> ParseResult<SourceSpan> {
 }
 
 /// A place: its offset and length.
-type Place = (usize, usize);
+pub(crate) type Place = (usize, usize);
 
 /// Where a span lies.
-fn place(span: SourceSpan) -> Place {
+pub(crate) fn place(span: SourceSpan) -> Place {
     (span.offset(), span.len())
 }
 
 /// Where an error lies, and the token that was found there.
-fn told(error: &Error) -> Option<(Place, Option<Token>)> {
+pub(crate) fn told(error: &Error) -> Option<(Place, Option<Token>)> {
     match error {
         Error::Lexer { span, .. } => Some((place(*span), None)),
         Error::Expected { found, span, .. } => Some((place(*span), *found)),
@@ -104,10 +95,12 @@ fn stream<'a>(inner: Option<Box<Type<'a>>>, span: SourceSpan) -> Type<'a> {
 type Taken = (Option<Place>, Place, bool, Place);
 
 /// What a type of a text takes.
-fn taken(rt: &impl Abort, alloc: Global, source: &str) -> Taken {
-    let mut lexer = lexer(rt, source);
+fn taken(alloc: Global, source: &str) -> Option<Taken> {
+    let Ok(mut lexer) = Lexer::new(source) else {
+        return None;
+    };
     if !has_more(&lexer) {
-        panic!(rt; "nothing stands in {source}");
+        return None;
     }
     // (the contract that the prover would infer of this closure passes its limit)
     let made = parse_optional_payload::<Error, _>(
@@ -118,13 +111,11 @@ fn taken(rt: &impl Abort, alloc: Global, source: &str) -> Taken {
             ensures { Unit {0} }
         { stream(inner, span) },
     );
-    match made {
-        Ok(ty) => match held(&ty) {
-            Some((inner, all)) => (inner, all, at(&lexer, Token::Ident), place(lexer.span())),
-            None => panic!(rt; "no stream"),
-        },
-        Err(_) => panic!(rt; "no type"),
-    }
+    let (inner, all) = match made {
+        Ok(ty) => held(&ty)?,
+        Err(_) => return None,
+    };
+    Some((inner, all, at(&lexer, Token::Ident), place(lexer.span())))
 }
 
 /// Texts, and what a type of each takes. Where the text ends with it, nothing is read after it: the lexer's span is
@@ -136,24 +127,26 @@ static PAYLOADS: [(&str, Taken); 4] = [
     ("stream", (None, (0, 6), false, (0, 1))),
 ];
 
-/// Asserts what an optional part at the start of each text gives, and what it leaves.
-fn are_given(rt: &impl Abort, rows: &[(&str, Given, &[Item])]) {
-    for (source, expected, items) in rows {
-        let mut lexer = lexer(rt, source);
-        assert!(rt; given(&mut lexer) == *expected, "of {source}");
-        assert!(rt; leaves(lexer, items), "of {source}");
-    }
-}
-
-/// Asserts what a type of each text takes.
-fn are_taken(rt: &impl Abort, alloc: Global, rows: &[(&str, Taken)]) {
-    for (source, expected) in rows {
-        assert!(rt; taken(rt, alloc, source) == *expected, "of {source}");
+/// Whether an optional part at the start of a text gives this, and leaves these items.
+fn gives(source: &str, expected: &Given, items: &[Item]) -> bool {
+    match Lexer::new(source) {
+        Ok(mut lexer) => given(&mut lexer) == *expected && leaves(lexer, items),
+        Err(_) => false,
     }
 }
 
 #[test]
-fn optional_parts_and_payloads(rt: HostRuntime) {
-    are_given(&rt, &OPTIONAL);
-    are_taken(&rt, rt.alloc(), &PAYLOADS);
+fn optional_parts(rt: HostRuntime) {
+    for (source, expected, items) in &OPTIONAL {
+        let is_given = gives(source, expected, items);
+        assert!(rt; is_given, "of {source}");
+    }
+}
+
+#[test]
+fn optional_payloads(rt: HostRuntime) {
+    for (source, expected) in &PAYLOADS {
+        let is_taken = taken(rt.alloc(), source) == Some(*expected);
+        assert!(rt; is_taken, "of {source}");
+    }
 }

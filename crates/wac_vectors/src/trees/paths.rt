@@ -1,53 +1,56 @@
 //! Paths of packages: their names and segments, and the spans of these.
 
 use std::alloc::Global;
-use std::test::Fail;
-use wac_ast_base::{PackagePath, Parse, ParseResult, SegmentSpans};
-use wac_lexer::{Error as Fault, Lexer, SourceSpan};
+use wac_ast_base::{PackagePath, Parse, SegmentSpans};
+use wac_lexer::{Lexer, SourceSpan};
 
-/// A lexer at the path that an import of a text has, after six tokens.
-fn at_path(source: &str) -> Result<Lexer<'_>, (Fault, SourceSpan)> {
-    let mut lexer = Lexer::new(source)?;
-    for _ in 0..6 {
-        lexer.next();
+/// The path that a text is.
+fn path_of(alloc: Global, source: &str) -> Option<PackagePath<'_>> {
+    let Ok(mut lexer) = Lexer::new(source) else {
+        return None;
+    };
+    match Parse::parse(alloc, &mut lexer) {
+        Ok(path) => Some(path),
+        Err(_) => None,
     }
-    Ok(lexer)
 }
 
-/// The path that an import of a text has.
-fn imported(alloc: Global, source: &str) -> ParseResult<PackagePath<'_>> {
-    let mut lexer = at_path(source)?;
-    Parse::parse(alloc, &mut lexer)
+/// Whether the path that a text is is the one of the test.
+fn is_path(alloc: Global, source: &str) -> bool {
+    match path_of(alloc, source) {
+        Some(path) => {
+            path.name == "%c:d"
+                && path.segments == "e/%f"
+                && path.package_name_span() == SourceSpan::new(0, 4)
+                && path.version.is_some()
+        }
+        None => false,
+    }
 }
 
-/// The segments of the path that an import of a text has. The path is dropped before
-/// they are read: they live as long as the source.
-fn segments(alloc: Global, source: &str) -> ParseResult<SegmentSpans<'_>> {
-    let path = imported(alloc, source)?;
-    Ok(path.segment_spans())
-}
-
-/// Whether a path is the one of the test.
-fn is_path(path: &PackagePath) -> bool {
-    path.name == "%c:d"
-        && path.segments == "e/%f"
-        && path.package_name_span() == SourceSpan::new(23, 4)
-        && path.version.is_some()
+/// The segments of the path that a text is. The path is dropped before they are read: they live as long as the source.
+fn segments(alloc: Global, source: &str) -> Option<SegmentSpans<'_>> {
+    match path_of(alloc, source) {
+        Some(path) => Some(path.segment_spans()),
+        None => None,
+    }
 }
 
 /// Whether segments are those of the test.
-fn are_segments(mut segments: SegmentSpans<'_>) -> bool {
-    segments.next() == Some(("e", SourceSpan::new(28, 1)))
-        && segments.next() == Some(("%f", SourceSpan::new(30, 2)))
-        && segments.next() == None
+fn are_segments(segments: Option<SegmentSpans<'_>>) -> bool {
+    match segments {
+        Some(mut segments) => {
+            segments.next() == Some(("e", SourceSpan::new(5, 1)))
+                && segments.next() == Some(("%f", SourceSpan::new(7, 2)))
+                && segments.next() == None
+        }
+        None => false,
+    }
 }
 
 #[test]
-fn names_and_segments(rt: HostRuntime) -> Result<(), Fail> {
-    let source = "package a:b; import x: %c:d/e/%f@1.0.0;";
-    let path = imported(rt.alloc(), source)?;
-    assert!(rt; is_path(&path), "of {source}");
-    let segments = segments(rt.alloc(), source)?;
-    assert!(rt; are_segments(segments), "of {source}");
-    Ok(())
+fn names_and_segments(rt: HostRuntime) {
+    let source = "%c:d/e/%f@1.0.0";
+    assert!(rt; is_path(rt.alloc(), source), "of {source}");
+    assert!(rt; are_segments(segments(rt.alloc(), source)), "of {source}");
 }

@@ -1,76 +1,88 @@
-//! Where a lexer is: docs and spans after the last item, after the end and after
-//! a rejected token; and what a lookahead counts.
+//! Where a lexer is: its span and the docs after the last item, after the end and after a rejected token; and what a
+//! lookahead counts.
 
-use crate::trees::optional::lexer;
-use std::alloc::Global;
-use std::process::Abort;
+use crate::trees::optional::{Place, place, told};
+use std::alloc::{AllocError, Global};
 use std::test::Fail;
 use wac_ast_base::{Error, Lookahead, parse_token};
 use wac_lexer::{Lexer, SourceSpan, Token};
 
-/// Whether docs are one of this text, there.
-fn is_one(docs: &[(&str, SourceSpan)], text: &str, span: SourceSpan) -> bool {
-    match docs.first() {
-        Some((doc, place)) => docs.len() == 1 && *doc == text && *place == span,
-        None => false,
+/// A doc, its offset and its length. Nothing where there is none.
+type Doc = Option<(&'static str, usize, usize)>;
+
+/// A token that was not expected, or the end: where it is rejected, what was found there, the lexer's span after it, and
+/// the doc after it. Where an item ends the text, the lexer's span is the byte before it.
+type Step = (Place, Option<Token>, Place, Doc);
+
+/// Texts, the doc before each, and what comes where a semicolon is expected, again and again.
+static REFUSED: [(&str, Doc, &[Step]); 2] = [
+    (
+        "/// d\na /// x",
+        Some(("d", 0, 5)),
+        &[
+            ((6, 1), Some(Token::Ident), (6, 1), Some(("x", 8, 5))),
+            ((12, 1), None, (12, 1), None),
+        ],
+    ),
+    (
+        "x /// d\n yz",
+        None,
+        &[
+            ((0, 1), Some(Token::Ident), (0, 1), Some(("d", 2, 5))),
+            ((9, 2), Some(Token::Ident), (8, 1), None),
+            ((10, 1), None, (10, 1), None),
+        ],
+    ),
+];
+
+/// Whether docs are this one alone.
+fn are_doc(docs: &[(&str, SourceSpan)], wanted: Doc) -> bool {
+    match (docs.first(), wanted) {
+        (Some((text, span)), Some((doc, offset, len))) => {
+            docs.len() == 1 && *text == doc && *span == SourceSpan::new(offset, len)
+        }
+        (None, None) => true,
+        _ => false,
     }
 }
 
-/// Asserts that one doc follows the lexer's place.
-fn has_doc(
-    rt: &impl Abort,
-    alloc: Global,
-    lexer: &Lexer,
-    text: &str,
-    span: SourceSpan,
-) -> Result<(), Fail> {
+/// Whether this doc alone follows the lexer's place.
+fn has_doc(alloc: Global, lexer: &Lexer, wanted: Doc) -> Result<bool, AllocError> {
     let docs = lexer.comments(alloc)?;
-    assert!(rt; is_one(&docs, text, span), "of {text}");
-    Ok(())
+    Ok(are_doc(docs.as_slice(), wanted))
 }
 
-/// Asserts the docs after the last item, and after the end.
-fn docs_after_the_last_item(rt: &impl Abort, alloc: Global) -> Result<(), Fail> {
-    let mut lexer = lexer(rt, "/// d\na /// x");
-    has_doc(rt, alloc, &lexer, "d", SourceSpan::new(0, 5))?;
-    let item = Some((Ok(Token::Ident), SourceSpan::new(6, 1)));
-    assert!(rt; lexer.next() == item, "a");
-    assert!(rt; lexer.span() == SourceSpan::new(6, 1), "a");
-    has_doc(rt, alloc, &lexer, "x", SourceSpan::new(8, 5))?;
-    assert!(rt; lexer.next() == None, "the end");
-    assert!(rt; lexer.span() == SourceSpan::new(12, 1), "the end");
-    assert!(rt; lexer.comments(alloc)?.is_empty());
-    Ok(())
-}
-
-/// Where an error lies, and the token that was found there.
-fn told(error: &Error) -> Option<(SourceSpan, Option<Token>)> {
-    match error {
-        Error::Expected { found, span, .. } => Some((*span, *found)),
-        _ => None,
-    }
-}
-
-/// Asserts that a semicolon is rejected there.
-fn is_refused(rt: &impl Abort, lexer: &mut Lexer, span: SourceSpan, found: Option<Token>) {
+/// Whether a semicolon is rejected there, for what was found.
+fn is_refused(lexer: &mut Lexer, place: Place, found: Option<Token>) -> bool {
     match parse_token(lexer, Token::Semicolon) {
-        Ok(_) => panic!(rt; "a semicolon"),
-        Err(error) => assert!(rt; told(&error) == Some((span, found)), "of {}", span.offset()),
+        Ok(_) => false,
+        Err(error) => told(&error) == Some((place, found)),
     }
 }
 
-/// Asserts that a token that was not expected is consumed.
-fn a_refused_token_is_consumed(rt: &impl Abort, alloc: Global) -> Result<(), Fail> {
-    let mut lexer = lexer(rt, "x /// d\n yz");
-    is_refused(rt, &mut lexer, SourceSpan::new(0, 1), Some(Token::Ident));
-    assert!(rt; lexer.span() == SourceSpan::new(0, 1), "x");
-    has_doc(rt, alloc, &lexer, "d", SourceSpan::new(2, 5))?;
-    is_refused(rt, &mut lexer, SourceSpan::new(9, 2), Some(Token::Ident));
-    // The item ends the text, so the byte before it is reported.
-    assert!(rt; lexer.span() == SourceSpan::new(8, 1), "yz");
-    is_refused(rt, &mut lexer, SourceSpan::new(10, 1), None);
-    assert!(rt; lexer.span() == SourceSpan::new(10, 1), "the end");
-    Ok(())
+/// Whether these steps come.
+fn come(alloc: Global, mut lexer: Lexer, steps: &[Step]) -> Result<bool, AllocError> {
+    for (at, found, after, doc) in steps {
+        let is_next = is_refused(&mut lexer, *at, *found) && place(lexer.span()) == *after;
+        if !is_next || !has_doc(alloc, &lexer, *doc)? {
+            return Ok(false);
+        }
+    }
+    Ok(true)
+}
+
+/// The first text of which other steps come.
+fn first_other(alloc: Global) -> Result<Option<&'static str>, AllocError> {
+    for (source, doc, steps) in &REFUSED {
+        let comes = match Lexer::new(source) {
+            Ok(lexer) => has_doc(alloc, &lexer, *doc)? && come(alloc, lexer, steps)?,
+            Err(_) => false,
+        };
+        if !comes {
+            return Ok(Some(*source));
+        }
+    }
+    Ok(None)
 }
 
 /// Eleven tokens, none of which is an identifier.
@@ -100,29 +112,32 @@ fn counted(error: &Error) -> Option<(usize, Option<Token>)> {
     }
 }
 
-/// Asserts what a lookahead counts.
-fn attempts_are_counted(rt: &impl Abort) {
-    let lexer = lexer(rt, "x");
-    let mut lookahead = Lookahead::new(&lexer);
-    assert!(rt; lookahead.attempts() == 0, "no token");
-    assert!(rt; lookahead.peek(Token::Ident));
-    assert!(rt; lookahead.attempts() == 0, "the token that is there");
+/// Whether a lookahead counts the tokens that it doesn't find: eleven others than the one that is there.
+fn are_counted(lexer: &Lexer) -> bool {
+    let mut lookahead = Lookahead::new(lexer);
+    let before = lookahead.attempts() == 0
+        && lookahead.peek(Token::Ident)
+        && lookahead.attempts() == 0;
     for token in &ELEVEN {
-        assert!(rt; !lookahead.peek(*token));
+        if lookahead.peek(*token) {
+            return false;
+        }
     }
-    assert!(rt; lookahead.peek(Token::Ident));
-    assert!(rt; lookahead.attempts() == 11, "eleven other tokens");
+    let after = lookahead.peek(Token::Ident) && lookahead.attempts() == 11;
     if lookahead.attempts() > 0 {
         let error = lookahead.error();
-        let last = Some(Token::OpenAngle);
-        assert!(rt; counted(&error) == Some((11, last)), "the error");
+        return before && after && counted(&error) == Some((11, Some(Token::OpenAngle)));
     }
+    false
 }
 
 #[test]
 fn places_and_attempts(rt: HostRuntime) -> Result<(), Fail> {
-    docs_after_the_last_item(&rt, rt.alloc())?;
-    a_refused_token_is_consumed(&rt, rt.alloc())?;
-    attempts_are_counted(&rt);
+    let wrong = first_other(rt.alloc())?;
+    assert!(rt; wrong == None, "{wrong:?}");
+    match Lexer::new("x") {
+        Ok(lexer) => assert!(rt; are_counted(&lexer), "eleven"),
+        Err(_) => panic!(rt; "refused"),
+    }
     Ok(())
 }
