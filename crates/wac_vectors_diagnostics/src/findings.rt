@@ -1,201 +1,131 @@
-//! What is found first, where it lies, and what can be done about it.
+//! What is found first, and where it lies.
 
+use crate::parts::{Parts, joined};
 use std::alloc::{AllocError, Global};
 use std::process::Abort;
 use std::test::Fail;
 use wac_diagnostics::Diagnostic;
 use wac_first_error::{Reading, Verdict, first_error, read_text};
 
-/// What is wrong with bytes first, if they are rejected.
-fn rejection(alloc: Global, bytes: &[u8]) -> Result<Option<Diagnostic>, AllocError> {
-    match first_error(alloc, bytes, true) {
-        Ok(Verdict::Rejected(diagnostic)) => Ok(Some(diagnostic)),
-        Ok(_) => Ok(None),
-        Err(_) => Err(AllocError),
+/// A text, whether it is to be resolved, and what is found: a line `OFFSET+LEN CODE`, or what it is.
+type Row = (Parts, bool, &'static str);
+
+static ROWS: [Row; 11] = [
+    // Of two errors the one that is tested first is reported, wherever they lie.
+    (&[("\u{feff}\u{c}", 1)], true, "0+3 wac::byte-order-mark"),
+    (&[("x\u{c}", 1)], true, "1+1 wac::disallowed-control-code"),
+    (
+        &[("package a:b;\nlet x = y;\nlet", 1)],
+        true,
+        "26+1 wac::expected",
+    ),
+    // A thousand brackets are none too many, and nor are more in a comment; one more is rejected before parsing.
+    (&[("; {", 1), ("(", 999)], true, "0+1 wac::expected"),
+    (
+        &[("; {", 1), ("(", 1000)],
+        true,
+        "1002+1 wac::nested-too-deep",
+    ),
+    (
+        &[("// ", 1), ("(", 1001), ("\npackage a:b;", 1)],
+        true,
+        "a document",
+    ),
+    // A document that mentions packages isn't resolved, and none is where that isn't asked for.
+    (
+        &[("package a:b;\nimport f: func();\nexport f as g;\n", 1)],
+        true,
+        "a document",
+    ),
+    (
+        &[("package a:b;\nlet x = new c:d { };\nlet x = y;\n", 1)],
+        true,
+        "not resolved",
+    ),
+    (
+        &[("package a:b;\nlet x = new c:d { };\nlet x = y;\n", 1)],
+        false,
+        "a document",
+    ),
+    (&[("package a:b;\nlet x = y;\n", 1)], false, "a document"),
+    (
+        &[("package a:b;\nlet x = y;\n", 1)],
+        true,
+        "21+1 wac::undefined-name",
+    ),
+];
+
+/// The line of a diagnostic.
+fn line_of(alloc: Global, diagnostic: &Diagnostic) -> Result<String, AllocError> {
+    let code = diagnostic.code;
+    match diagnostic.span {
+        Some(span) => {
+            let offset = span.offset();
+            let len = span.len();
+            format!(in alloc; "{offset}+{len} {code}")
+        }
+        None => String::from_str(alloc, code),
     }
 }
 
-/// Whether the first error of bytes has this code and this place.
-fn is_at(
-    alloc: Global,
-    bytes: &[u8],
-    code: &str,
-    offset: usize,
-    len: usize,
-) -> Result<bool, AllocError> {
-    match rejection(alloc, bytes)? {
-        Some(diagnostic) => match diagnostic.span {
-            Some(span) => Ok(
-                diagnostic.code == code && span.offset() == offset && span.len() == len,
-            ),
-            None => Ok(false),
-        },
-        None => Ok(false),
-    }
-}
-
-/// Of two errors the one that is tested first is reported, wherever they lie.
-#[test]
-fn order(rt: HostRuntime) -> Result<(), Fail> {
-    let alloc = rt.alloc();
-    let holds = is_at(alloc, b"\xef\xbb\xbf\x0c\xff", "wac::not-utf-8", 4, 1)?;
-    assert!(rt; holds, "UTF-8 before a byte order mark");
-    let holds = is_at(alloc, b"\xef\xbb\xbf\x0c", "wac::byte-order-mark", 0, 3)?;
-    assert!(rt; holds, "a byte order mark before characters");
-    let holds = is_at(alloc, b"x\x0c", "wac::disallowed-control-code", 1, 1)?;
-    assert!(rt; holds, "characters before parsing");
-    let holds = is_at(
-        alloc,
-        b"package a:b;\nlet x = y;\nlet",
-        "wac::expected",
-        26,
-        1,
-    )?;
-    assert!(rt; holds, "parsing before resolving");
-    Ok(())
-}
-
-/// `(` so many times, and what comes before and after it.
-fn nested(alloc: Global, before: &str, times: usize, after: &str) -> Result<String, AllocError> {
-    let mut text = String::from_str(alloc, before)?;
-    for _ in 0..times {
-        text.push('(')?;
-    }
-    text.push_str(after)?;
-    Ok(text)
-}
-
-/// A thousand brackets are none too many, and nor are more in a comment; one more is rejected before parsing.
-#[test]
-fn depth(rt: HostRuntime) -> Result<(), Fail> {
-    let alloc = rt.alloc();
-    let text = nested(alloc, "; {", 999, "")?;
-    let holds = is_at(alloc, text.as_bytes(), "wac::expected", 0, 1)?;
-    assert!(rt; holds, "a thousand");
-    let text = nested(alloc, "; {", 1000, "")?;
-    let holds = is_at(alloc, text.as_bytes(), "wac::nested-too-deep", 1002, 1)?;
-    assert!(rt; holds, "one more, behind a fault");
-    let text = nested(alloc, "// ", 1001, "\npackage a:b;")?;
-    let found = rejection(alloc, text.as_bytes())?;
-    assert!(rt; found.is_none(), "in a comment");
-    Ok(())
-}
-
-/// What bytes are, as a number: a document, one that isn't resolved, or something else.
-fn kind(alloc: Global, text: &str, resolve: bool) -> Result<usize, AllocError> {
-    match first_error(alloc, text.as_bytes(), resolve) {
-        Ok(Verdict::Document(found)) if found == text => Ok(1),
-        Ok(Verdict::Unresolved(found)) if found == text => Ok(2),
-        Ok(_) => Ok(3),
-        Err(_) => Err(AllocError),
-    }
-}
-
-/// A document that mentions packages isn't resolved, and none is where that isn't asked for.
-#[test]
-fn documents(rt: HostRuntime) -> Result<(), Fail> {
-    let alloc = rt.alloc();
-    let plain = "package a:b;\nimport f: func();\nexport f as g;\n";
-    let found = kind(alloc, plain, true)?;
-    assert!(rt; found == 1, "resolved");
-    let foreign = "package a:b;\nlet x = new c:d { };\nlet x = y;\n";
-    let found = kind(alloc, foreign, true)?;
-    assert!(rt; found == 2, "mentions a package");
-    let found = kind(alloc, foreign, false)?;
-    assert!(rt; found == 1, "not to be resolved");
-    let broken = "package a:b;\nlet x = y;\n";
-    let found = kind(alloc, broken, false)?;
-    assert!(rt; found == 1, "a broken rule");
-    let found = kind(alloc, broken, true)?;
-    assert!(rt; found == 3, "a broken rule, to be resolved");
-    Ok(())
-}
-
-/// Whether the first error of a text has this help.
-fn has_help(alloc: Global, text: &str, help: &str) -> Result<bool, AllocError> {
-    match rejection(alloc, text.as_bytes())? {
-        Some(diagnostic) => match &diagnostic.help {
-            Some(found) => Ok(found.as_str() == help),
-            None => Ok(false),
-        },
-        None => Ok(false),
-    }
-}
-
-#[test]
-fn help(rt: HostRuntime) -> Result<(), Fail> {
-    let alloc = rt.alloc();
-    let text = "package a:b; interface i { type t = u8; } interface j { t: func(); use i.{t}; }";
-    let holds = has_help(
-        alloc,
-        text,
-        "consider using an `as` clause to use a different name",
-    )?;
-    assert!(rt; holds, "of resolving");
-    let holds = has_help(
-        alloc,
-        "package a:b@1.2;",
-        "a version has three numbers, as in `1.2.3`",
-    )?;
-    assert!(rt; holds, "of parsing");
-    let holds = has_help(
-        alloc,
-        "\u{feff}",
-        "save the file as UTF-8 without a byte order mark",
-    )?;
-    assert!(rt; holds, "of reading");
-    Ok(())
-}
-
-/// Whether the first error of a text has one note, with this message and this place.
-fn has_note(alloc: Global, text: &str, message: &str, offset: usize) -> Result<bool, AllocError> {
-    match rejection(alloc, text.as_bytes())? {
-        Some(diagnostic) => match diagnostic.notes.first() {
-            Some(note) => Ok(
-                diagnostic.notes.len() == 1
-                    && note.message.as_str() == message
-                    && note.span.offset() == offset
-                    && note.span.len() == 1,
-            ),
-            None => Ok(false),
-        },
-        None => Ok(false),
-    }
-}
-
-#[test]
-fn notes(rt: HostRuntime) -> Result<(), Fail> {
-    let alloc = rt.alloc();
-    let text = "package a:b; import f: func(); import g: func(); let f = g;";
-    let holds = has_note(alloc, text, "it is defined here", 20)?;
-    assert!(rt; holds, "a name");
-    let text = "package a:b; type t = u32; type t = u8;";
-    let holds = has_note(alloc, text, "it is exported here", 18)?;
-    assert!(rt; holds, "a declaration");
-    let text = "package a:b; type t = u8; import f: func(); export f as t;";
-    let holds = has_note(alloc, text, "it is defined here", 18)?;
-    assert!(rt; holds, "an export");
-    let text = "package a:b; import g: func(); import k as g: func();";
-    let holds = has_note(alloc, text, "it is first here", 20)?;
-    assert!(rt; holds, "an import");
-    Ok(())
-}
-
-/// Reading tests no more than UTF-8 and the byte order mark.
-#[test]
-fn reading(rt: HostRuntime) -> Result<(), Fail> {
-    match read_text(rt.alloc(), b"x\x0c") {
-        Ok(Reading::Text(text)) => assert!(rt; text == "x\u{c}", "another text"),
-        Ok(Reading::Rejected(_)) => assert!(rt; 1 == 2, "a text is rejected"),
-        Err(_) => assert!(rt; 1 == 2, "out of memory"),
-    }
-    match read_text(rt.alloc(), b"x\xff") {
-        Ok(Reading::Rejected(diagnostic)) => assert!(rt;
-            diagnostic.code == "wac::not-utf-8",
-            "another code"
+/// What is found of bytes first.
+fn found_first(alloc: Global, bytes: &[u8], resolve: bool) -> Result<String, AllocError> {
+    match first_error(alloc, bytes, resolve) {
+        Ok(Verdict::Document(text)) if text.as_bytes() == bytes => String::from_str(
+            alloc,
+            "a document",
         ),
-        Ok(Reading::Text(_)) => assert!(rt; 1 == 2, "a text"),
-        Err(_) => assert!(rt; 1 == 2, "out of memory"),
+        Ok(Verdict::Unresolved(text)) if text.as_bytes() == bytes => String::from_str(
+            alloc,
+            "not resolved",
+        ),
+        Ok(Verdict::Rejected(diagnostic)) => line_of(alloc, &diagnostic),
+        Ok(_) => String::from_str(alloc, "another text"),
+        Err(_) => Err(AllocError),
     }
+}
+
+/// What is found of the text of a row.
+fn found_of(alloc: Global, row: &Row) -> Result<String, AllocError> {
+    let text = joined(alloc, row.0)?;
+    found_first(alloc, text.as_bytes(), row.1)
+}
+
+/// What reading bytes gives, which tests no more than UTF-8 and the byte order mark.
+fn read(alloc: Global, bytes: &[u8]) -> Result<String, AllocError> {
+    match read_text(alloc, bytes) {
+        Ok(Reading::Text(text)) => String::from_str(alloc, text),
+        Ok(Reading::Rejected(diagnostic)) => line_of(alloc, &diagnostic),
+        Err(_) => Err(AllocError),
+    }
+}
+
+/// The first finding that is another one than its row says.
+fn first_other(alloc: Global) -> Result<Option<String>, AllocError> {
+    for row in &ROWS {
+        let found = found_of(alloc, row)?;
+        if found.as_str() != row.2 {
+            return Ok(Some(found));
+        }
+    }
+    Ok(None)
+}
+
+#[test]
+fn the_first_error_is_found(rt: HostRuntime) -> Result<(), Fail> {
+    if let Some(found) = first_other(rt.alloc())? {
+        panic!(rt; "{found}");
+    }
+    Ok(())
+}
+
+#[test]
+fn bytes_are_read(rt: HostRuntime) -> Result<(), Fail> {
+    let found = found_first(rt.alloc(), b"\xef\xbb\xbf\x0c\xff", true)?;
+    assert!(rt; found.as_str() == "4+1 wac::not-utf-8", "{found}");
+    let text = read(rt.alloc(), b"x\x0c")?;
+    assert!(rt; text.as_str() == "x\u{c}", "{text}");
+    let line = read(rt.alloc(), b"x\xff")?;
+    assert!(rt; line.as_str() == "1+1 wac::not-utf-8", "{line}");
     Ok(())
 }

@@ -1,6 +1,6 @@
 //! Frames: what is received of bytes that come in pieces.
 
-use crate::pieces::Pieces;
+use crate::devices::Pieces;
 use std::alloc::{AllocError, Global};
 use std::process::Abort;
 use std::test::Fail;
@@ -31,7 +31,7 @@ fn received(alloc: Global, mut input: Pieces<'_>) -> Result<String, AllocError> 
 }
 
 /// Bytes, and what is received of them.
-static ROWS: [(&str, &str); 18] = [
+static ROWS: [(&str, &str); 19] = [
     ("", "end"),
     ("Content-Length: 2\r\n\r\n{}", "{}\nend"),
     ("Content-Length: 0\r\n\r\n", "\nend"),
@@ -80,6 +80,10 @@ static ROWS: [(&str, &str); 18] = [
         "Content-Length: 67108865\r\n\r\n",
         "the Content-Length is more than 64 MB",
     ),
+    (
+        "Content-Length: 99999999999999999999999\r\n\r\n",
+        "the Content-Length is more than 64 MB",
+    ),
 ];
 
 /// Of how many bytes a piece has at most.
@@ -94,17 +98,6 @@ fn messages_come_in_any_pieces(rt: HostRuntime) -> Result<(), Fail> {
             assert!(rt; found.as_str() == *expected, "{bytes}: {found}");
         }
     }
-    Ok(())
-}
-
-#[test]
-fn lengths_beyond_numbers_are_refused(rt: HostRuntime) -> Result<(), Fail> {
-    let header = "Content-Length: 99999999999999999999999\r\n\r\n";
-    let found = received(rt.alloc(), Pieces::new(header.as_bytes(), 7))?;
-    assert!(rt;
-        found.as_str() == "the Content-Length is more than 64 MB",
-        "{found}"
-    );
     Ok(())
 }
 
@@ -131,7 +124,7 @@ fn headers_end_within_8_kb(rt: HostRuntime) -> Result<(), Fail> {
 #[test]
 fn input_that_fails_is_told(rt: HostRuntime) -> Result<(), Fail> {
     let bytes = "Content-Length: 2\r\n\r\n{}Content-";
-    let found = received(rt.alloc(), Pieces::new(bytes.as_bytes(), 5).failing())?;
+    let found = received(rt.alloc(), Pieces::new(bytes.as_bytes(), 5).failing(true))?;
     assert!(rt; found.as_str() == "{}\nthe input failed", "{found}");
     Ok(())
 }

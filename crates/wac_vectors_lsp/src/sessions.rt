@@ -1,423 +1,446 @@
-//! Sessions: what is sent after each message of a client.
+//! Sessions of a client with folders, over files in memory: what is sent after each message. Other rows of sessions are
+//! in .ci/sessions/.
 
-use std::alloc::Global;
+use crate::devices::{Narrow, Pieces};
+use std::alloc::{AllocError, Global};
 use std::process::Abort;
 use std::test::Fail;
-use wac_lsp::{Server, step};
+use wac_files::MemoryFiles;
+use wac_lsp::Sent;
+use wac_lsp_sessions::{ServeError, Session, serve};
 use wac_lsp_texts::ChangeError;
+use wac_lsp_workspace::read_folders;
 
-/// The body of a message, and those that are sent after it, a line each, or the status with which the server ends.
-pub(crate) type Row = (&'static str, &'static str);
+/// The body of a message, and those that are sent after it, a line each.
+type Row = (&'static str, &'static str);
 
-/// How a session begins and ends.
-static BEGINNING: [Row; 15] = [
+/// A session.
+#[derive(Clone, Copy)]
+struct Story {
+    folders: &'static [&'static str],
+    /// The files, each with its text.
+    files: &'static [(&'static str, &'static str)],
+    /// The message with which the client begins. The reply is that of a server without folders.
+    begins: &'static str,
+    rows: &'static [Row],
+}
+
+/// The documents of `a:b` and `a:c` in a folder.
+static PROJECT: [(&str, &str); 2] = [
     (
-        "{\"id\":1,\"jsonrpc\":\"2.0\",\"method\":\"shutdown\"}",
-        "{\"error\":{\"code\":-32002,\"message\":\"the server is not initialized\"},\"id\":1,\"jsonrpc\":\"2.0\"}",
+        "/my project/b.wac",
+        "package a:b;\nworld w { export f: func(); }\n",
     ),
     (
-        "{\"id\":2,\"jsonrpc\":\"2.0\",\"method\":\"textDocument/nothing\"}",
-        "{\"error\":{\"code\":-32002,\"message\":\"the server is not initialized\"},\"id\":2,\"jsonrpc\":\"2.0\"}",
+        "/my project/c.wac",
+        "package a:c;\ninterface i { type t = u8; }\n",
+    ),
+];
+
+/// A client begins that can be asked to watch files, and takes actions.
+const BEGINS: &str =
+    "{\"id\":1,\"jsonrpc\":\"2.0\",\"method\":\"initialize\",\"params\":{\"capabilities\":{\"textDocument\":{\"codeAction\":{\"codeActionLiteralSupport\":{\"codeActionKind\":{\"valueSet\":[]}}},\"publishDiagnostics\":{\"relatedInformation\":true}},\"workspace\":{\"didChangeWatchedFiles\":{\"dynamicRegistration\":true}}},\"workspaceFolders\":[{\"name\":\"p\",\"uri\":\"file:///my%20project\"}]}}";
+
+/// A composition with `a:b` is opened, and the document of `a:b` is opened, changed and closed.
+static ROWS: [Row; 12] = [
+    (
+        "{\"jsonrpc\":\"2.0\",\"method\":\"initialized\",\"params\":{}}",
+        "{\"id\":\"files\",\"jsonrpc\":\"2.0\",\"method\":\"client/registerCapability\",\"params\":{\"registrations\":[{\"id\":\"files\",\"method\":\"workspace/didChangeWatchedFiles\",\"registerOptions\":{\"watchers\":[{\"globPattern\":\"**/*.{wac,wasm}\"}]}}]}}\n",
     ),
     (
-        "{\"jsonrpc\":\"2.0\",\"method\":\"textDocument/didOpen\",\"params\":{\"textDocument\":{\"languageId\":\"wac\",\"text\":\"x\",\"uri\":\"file:///project/a%20b.wac\",\"version\":1}}}",
-        "",
+        "{\"jsonrpc\":\"2.0\",\"method\":\"textDocument/didOpen\",\"params\":{\"textDocument\":{\"languageId\":\"wac\",\"text\":\"package a:app;\\nlet x = new a:b { };\\nexport x.f;\\n\",\"uri\":\"file:///my%20project/app.wac\",\"version\":1}}}",
+        "{\"jsonrpc\":\"2.0\",\"method\":\"textDocument/publishDiagnostics\",\"params\":{\"diagnostics\":[],\"uri\":\"file:///my%20project/app.wac\",\"version\":1}}\n",
+    ),
+    // The client's name of a document is another one than this server's of its path.
+    (
+        "{\"jsonrpc\":\"2.0\",\"method\":\"textDocument/didOpen\",\"params\":{\"textDocument\":{\"languageId\":\"wac\",\"text\":\"package a:b;\\nworld w { export f: func(); }\\n\",\"uri\":\"file:///my%20project/%62.wac\",\"version\":1}}}",
+        "{\"jsonrpc\":\"2.0\",\"method\":\"textDocument/publishDiagnostics\",\"params\":{\"diagnostics\":[],\"uri\":\"file:///my%20project/%62.wac\",\"version\":1}}\n",
     ),
     (
-        "[]",
-        "{\"error\":{\"code\":-32600,\"message\":\"the body is no message\"},\"id\":null,\"jsonrpc\":\"2.0\"}",
+        "{\"jsonrpc\":\"2.0\",\"method\":\"textDocument/didChange\",\"params\":{\"contentChanges\":[{\"text\":\"package a:b;\\nworld w { }\\n\"}],\"textDocument\":{\"uri\":\"file:///my%20project/%62.wac\",\"version\":2}}}",
+        "{\"jsonrpc\":\"2.0\",\"method\":\"textDocument/publishDiagnostics\",\"params\":{\"diagnostics\":[{\"code\":\"wac::missing-instance-export\",\"message\":\"the instance has no export named `f`\\n`x` has nothing\",\"range\":{\"end\":{\"character\":10,\"line\":2},\"start\":{\"character\":8,\"line\":2}},\"relatedInformation\":[],\"severity\":1,\"source\":\"wac\"}],\"uri\":\"file:///my%20project/app.wac\",\"version\":1}}\n\
+         {\"jsonrpc\":\"2.0\",\"method\":\"textDocument/publishDiagnostics\",\"params\":{\"diagnostics\":[],\"uri\":\"file:///my%20project/%62.wac\",\"version\":2}}\n",
     ),
     (
-        "{",
-        "{\"error\":{\"code\":-32700,\"message\":\"the body is no JSON text\"},\"id\":null,\"jsonrpc\":\"2.0\"}",
+        "{\"id\":2,\"jsonrpc\":\"2.0\",\"method\":\"textDocument/definition\",\"params\":{\"position\":{\"character\":13,\"line\":1},\"textDocument\":{\"uri\":\"file:///my%20project/app.wac\"}}}",
+        "{\"id\":2,\"jsonrpc\":\"2.0\",\"result\":{\"range\":{\"end\":{\"character\":11,\"line\":0},\"start\":{\"character\":8,\"line\":0}},\"uri\":\"file:///my%20project/%62.wac\"}}\n",
+    ),
+    // Behind `new a:`, what is written of the name is replaced.
+    (
+        "{\"id\":5,\"jsonrpc\":\"2.0\",\"method\":\"textDocument/completion\",\"params\":{\"position\":{\"character\":14,\"line\":1},\"textDocument\":{\"uri\":\"file:///my%20project/app.wac\"}}}",
+        "{\"id\":5,\"jsonrpc\":\"2.0\",\"result\":{\"isIncomplete\":false,\"items\":[{\"detail\":\"a:b\",\"kind\":9,\"label\":\"a:b\",\"textEdit\":{\"newText\":\"a:b\",\"range\":{\"end\":{\"character\":14,\"line\":1},\"start\":{\"character\":12,\"line\":1}}}},{\"detail\":\"a:c\",\"kind\":9,\"label\":\"a:c\",\"textEdit\":{\"newText\":\"a:c\",\"range\":{\"end\":{\"character\":14,\"line\":1},\"start\":{\"character\":12,\"line\":1}}}}]}}\n",
+    ),
+    // What open documents declare, the one that changed last at the end, and behind it what the others of the folder do.
+    (
+        "{\"id\":11,\"jsonrpc\":\"2.0\",\"method\":\"workspace/symbol\",\"params\":{\"query\":\"\"}}",
+        "{\"id\":11,\"jsonrpc\":\"2.0\",\"result\":[{\"kind\":2,\"location\":{\"range\":{\"end\":{\"character\":11,\"line\":1},\"start\":{\"character\":0,\"line\":1}},\"uri\":\"file:///my%20project/%62.wac\"},\"name\":\"w\"},{\"kind\":13,\"location\":{\"range\":{\"end\":{\"character\":20,\"line\":1},\"start\":{\"character\":0,\"line\":1}},\"uri\":\"file:///my%20project/app.wac\"},\"name\":\"x\"},{\"kind\":11,\"location\":{\"range\":{\"end\":{\"character\":28,\"line\":1},\"start\":{\"character\":0,\"line\":1}},\"uri\":\"file:///my%20project/c.wac\"},\"name\":\"i\"},{\"kind\":26,\"location\":{\"range\":{\"end\":{\"character\":26,\"line\":1},\"start\":{\"character\":14,\"line\":1}},\"uri\":\"file:///my%20project/c.wac\"},\"name\":\"t\"}]}\n",
+    ),
+    // Its file stands for itself again.
+    (
+        "{\"jsonrpc\":\"2.0\",\"method\":\"textDocument/didClose\",\"params\":{\"textDocument\":{\"uri\":\"file:///my%20project/%62.wac\"}}}",
+        "{\"jsonrpc\":\"2.0\",\"method\":\"textDocument/publishDiagnostics\",\"params\":{\"diagnostics\":[],\"uri\":\"file:///my%20project/%62.wac\"}}\n\
+         {\"jsonrpc\":\"2.0\",\"method\":\"textDocument/publishDiagnostics\",\"params\":{\"diagnostics\":[],\"uri\":\"file:///my%20project/app.wac\",\"version\":2}}\n",
     ),
     (
-        "{\"id\":3,\"jsonrpc\":\"2.0\",\"method\":\"initialize\",\"params\":{\"capabilities\":3}}",
-        "{\"error\":{\"code\":-32602,\"message\":\"initialize lacks the capabilities of the client\"},\"id\":3,\"jsonrpc\":\"2.0\"}",
+        "{\"id\":7,\"jsonrpc\":\"2.0\",\"method\":\"textDocument/hover\",\"params\":{\"position\":{\"character\":9,\"line\":2},\"textDocument\":{\"uri\":\"file:///my%20project/app.wac\"}}}",
+        "{\"id\":7,\"jsonrpc\":\"2.0\",\"result\":{\"contents\":{\"kind\":\"plaintext\",\"value\":\"export f: func();\"},\"range\":{\"end\":{\"character\":10,\"line\":2},\"start\":{\"character\":9,\"line\":2}}}}\n",
     ),
     (
-        "{\"id\":4,\"jsonrpc\":\"2.0\",\"method\":\"initialize\",\"params\":{\"capabilities\":{\"textDocument\":{\"codeAction\":{\"codeActionLiteralSupport\":{\"codeActionKind\":{\"valueSet\":[\"quickfix\"]}}},\"documentSymbol\":{\"hierarchicalDocumentSymbolSupport\":true},\"foldingRange\":{\"lineFoldingOnly\":true},\"publishDiagnostics\":{\"codeDescriptionSupport\":true,\"relatedInformation\":true},\"rename\":{\"prepareSupport\":true}}},\"processId\":null}}",
-        "{\"id\":4,\"jsonrpc\":\"2.0\",\"result\":{\"capabilities\":{\"codeActionProvider\":{\"codeActionKinds\":[\"quickfix\"]},\"completionProvider\":{\"triggerCharacters\":[\".\",\"{\",\":\",\"/\",\"\\\"\"]},\"definitionProvider\":true,\"documentFormattingProvider\":true,\"documentHighlightProvider\":true,\"documentRangeFormattingProvider\":true,\"documentSymbolProvider\":true,\"foldingRangeProvider\":true,\"hoverProvider\":true,\"positionEncoding\":\"utf-16\",\"referencesProvider\":true,\"renameProvider\":{\"prepareProvider\":true},\"selectionRangeProvider\":true,\"semanticTokensProvider\":{\"full\":true,\"legend\":{\"tokenModifiers\":[],\"tokenTypes\":[\"keyword\",\"type\",\"string\",\"comment\",\"operator\",\"variable\",\"namespace\"]}},\"textDocumentSync\":{\"change\":2,\"openClose\":true},\"workspace\":{\"workspaceFolders\":{\"changeNotifications\":true,\"supported\":true}},\"workspaceSymbolProvider\":true},\"serverInfo\":{\"name\":\"wacx\",\"version\":\"1.2.3\"}}}",
+        "{\"jsonrpc\":\"2.0\",\"method\":\"workspace/didChangeWatchedFiles\",\"params\":{\"changes\":[]}}",
+        "{\"jsonrpc\":\"2.0\",\"method\":\"textDocument/publishDiagnostics\",\"params\":{\"diagnostics\":[],\"uri\":\"file:///my%20project/app.wac\",\"version\":2}}\n",
+    ),
+    // A package that there isn't: the edit that mends it, of a range that touches the name, and of one that doesn't.
+    (
+        "{\"jsonrpc\":\"2.0\",\"method\":\"textDocument/didChange\",\"params\":{\"contentChanges\":[{\"text\":\"package a:app;\\nlet x = new a:d { };\\n\"}],\"textDocument\":{\"uri\":\"file:///my%20project/app.wac\",\"version\":3}}}",
+        "{\"jsonrpc\":\"2.0\",\"method\":\"textDocument/publishDiagnostics\",\"params\":{\"diagnostics\":[{\"code\":\"wac::unknown-package\",\"message\":\"unknown package `a:d`\\nno file of the folders has it\",\"range\":{\"end\":{\"character\":15,\"line\":1},\"start\":{\"character\":12,\"line\":1}},\"relatedInformation\":[],\"severity\":1,\"source\":\"wac\"}],\"uri\":\"file:///my%20project/app.wac\",\"version\":3}}\n",
     ),
     (
-        "{\"id\":5,\"jsonrpc\":\"2.0\",\"method\":\"initialize\",\"params\":{\"capabilities\":{\"textDocument\":{\"codeAction\":{\"codeActionLiteralSupport\":{\"codeActionKind\":{\"valueSet\":[\"quickfix\"]}}},\"documentSymbol\":{\"hierarchicalDocumentSymbolSupport\":true},\"foldingRange\":{\"lineFoldingOnly\":true},\"publishDiagnostics\":{\"codeDescriptionSupport\":true,\"relatedInformation\":true},\"rename\":{\"prepareSupport\":true}}},\"processId\":null}}",
-        "{\"error\":{\"code\":-32600,\"message\":\"the server doesn't take this request now\"},\"id\":5,\"jsonrpc\":\"2.0\"}",
+        "{\"id\":9,\"jsonrpc\":\"2.0\",\"method\":\"textDocument/codeAction\",\"params\":{\"context\":{\"diagnostics\":[]},\"range\":{\"end\":{\"character\":13,\"line\":1},\"start\":{\"character\":13,\"line\":1}},\"textDocument\":{\"uri\":\"file:///my%20project/app.wac\"}}}",
+        "{\"id\":9,\"jsonrpc\":\"2.0\",\"result\":[{\"diagnostics\":[{\"code\":\"wac::unknown-package\",\"message\":\"unknown package `a:d`\\nno file of the folders has it\",\"range\":{\"end\":{\"character\":15,\"line\":1},\"start\":{\"character\":12,\"line\":1}},\"relatedInformation\":[],\"severity\":1,\"source\":\"wac\"}],\"edit\":{\"changes\":{\"file:///my%20project/app.wac\":[{\"newText\":\"a:b\",\"range\":{\"end\":{\"character\":15,\"line\":1},\"start\":{\"character\":12,\"line\":1}}}]}},\"kind\":\"quickfix\",\"title\":\"write `a:b`\"}]}\n",
     ),
+];
+
+/// A client begins that has no folder open, and can be asked to watch files.
+const BEGINS_ALONE: &str =
+    "{\"id\":1,\"jsonrpc\":\"2.0\",\"method\":\"initialize\",\"params\":{\"capabilities\":{\"textDocument\":{\"publishDiagnostics\":{\"relatedInformation\":true}},\"workspace\":{\"didChangeWatchedFiles\":{\"dynamicRegistration\":true}}},\"workspaceFolders\":null}}";
+
+/// The composition and a document of `a:b` without its export are opened; then their folder is opened, and closed.
+static FOLDERS: [Row; 5] = [
     (
         "{\"jsonrpc\":\"2.0\",\"method\":\"initialized\",\"params\":{}}",
         "",
     ),
     (
-        "{\"id\":\"x\",\"jsonrpc\":\"2.0\",\"method\":\"textDocument/nothing\"}",
-        "{\"error\":{\"code\":-32601,\"message\":\"there is no such method\"},\"id\":\"x\",\"jsonrpc\":\"2.0\"}",
+        "{\"jsonrpc\":\"2.0\",\"method\":\"textDocument/didOpen\",\"params\":{\"textDocument\":{\"languageId\":\"wac\",\"text\":\"package a:app;\\nlet x = new a:b { };\\nexport x.f;\\n\",\"uri\":\"file:///my%20project/app.wac\",\"version\":1}}}",
+        "{\"jsonrpc\":\"2.0\",\"method\":\"textDocument/publishDiagnostics\",\"params\":{\"diagnostics\":[],\"uri\":\"file:///my%20project/app.wac\",\"version\":1}}\n",
     ),
     (
-        "{\"id\":6,\"jsonrpc\":\"2.0\",\"method\":\"textDocument/documentSymbol\",\"params\":{}}",
-        "{\"error\":{\"code\":-32602,\"message\":\"the parameters are not those of this method\"},\"id\":6,\"jsonrpc\":\"2.0\"}",
+        "{\"jsonrpc\":\"2.0\",\"method\":\"textDocument/didOpen\",\"params\":{\"textDocument\":{\"languageId\":\"wac\",\"text\":\"package a:b;\\nworld w { }\\n\",\"uri\":\"file:///my%20project/%62.wac\",\"version\":1}}}",
+        "{\"jsonrpc\":\"2.0\",\"method\":\"textDocument/publishDiagnostics\",\"params\":{\"diagnostics\":[],\"uri\":\"file:///my%20project/%62.wac\",\"version\":1}}\n",
+    ),
+    // The client is asked to watch files now, and what is open stands before its file.
+    (
+        "{\"jsonrpc\":\"2.0\",\"method\":\"workspace/didChangeWorkspaceFolders\",\"params\":{\"event\":{\"added\":[{\"name\":\"p\",\"uri\":\"file:///my%20project/\"},{\"name\":\"p\",\"uri\":\"file:///my%20project\"}],\"removed\":[]}}}",
+        "{\"id\":\"files\",\"jsonrpc\":\"2.0\",\"method\":\"client/registerCapability\",\"params\":{\"registrations\":[{\"id\":\"files\",\"method\":\"workspace/didChangeWatchedFiles\",\"registerOptions\":{\"watchers\":[{\"globPattern\":\"**/*.{wac,wasm}\"}]}}]}}\n\
+         {\"jsonrpc\":\"2.0\",\"method\":\"textDocument/publishDiagnostics\",\"params\":{\"diagnostics\":[{\"code\":\"wac::missing-instance-export\",\"message\":\"the instance has no export named `f`\\n`x` has nothing\",\"range\":{\"end\":{\"character\":10,\"line\":2},\"start\":{\"character\":8,\"line\":2}},\"relatedInformation\":[],\"severity\":1,\"source\":\"wac\"}],\"uri\":\"file:///my%20project/app.wac\",\"version\":1}}\n\
+         {\"jsonrpc\":\"2.0\",\"method\":\"textDocument/publishDiagnostics\",\"params\":{\"diagnostics\":[],\"uri\":\"file:///my%20project/%62.wac\",\"version\":1}}\n",
     ),
     (
-        "{\"id\":7,\"jsonrpc\":\"2.0\",\"method\":\"shutdown\"}",
-        "{\"id\":7,\"jsonrpc\":\"2.0\",\"result\":null}",
-    ),
-    (
-        "{\"id\":8,\"jsonrpc\":\"2.0\",\"method\":\"shutdown\"}",
-        "{\"error\":{\"code\":-32600,\"message\":\"the server doesn't take this request now\"},\"id\":8,\"jsonrpc\":\"2.0\"}",
-    ),
-    (
-        "{\"id\":9,\"jsonrpc\":\"2.0\",\"method\":\"textDocument/nothing\"}",
-        "{\"error\":{\"code\":-32600,\"message\":\"the server doesn't take this request now\"},\"id\":9,\"jsonrpc\":\"2.0\"}",
-    ),
-    ("{\"jsonrpc\":\"2.0\",\"method\":\"exit\"}", "status 0"),
-];
-
-/// A document is opened, changed, asked about and closed.
-static DOCUMENT: [Row; 21] = [
-    (
-        "{\"id\":1,\"jsonrpc\":\"2.0\",\"method\":\"initialize\",\"params\":{\"capabilities\":{\"textDocument\":{\"codeAction\":{\"codeActionLiteralSupport\":{\"codeActionKind\":{\"valueSet\":[\"quickfix\"]}}},\"documentSymbol\":{\"hierarchicalDocumentSymbolSupport\":true},\"foldingRange\":{\"lineFoldingOnly\":true},\"publishDiagnostics\":{\"codeDescriptionSupport\":true,\"relatedInformation\":true},\"rename\":{\"prepareSupport\":true}}},\"processId\":null}}",
-        "{\"id\":1,\"jsonrpc\":\"2.0\",\"result\":{\"capabilities\":{\"codeActionProvider\":{\"codeActionKinds\":[\"quickfix\"]},\"completionProvider\":{\"triggerCharacters\":[\".\",\"{\",\":\",\"/\",\"\\\"\"]},\"definitionProvider\":true,\"documentFormattingProvider\":true,\"documentHighlightProvider\":true,\"documentRangeFormattingProvider\":true,\"documentSymbolProvider\":true,\"foldingRangeProvider\":true,\"hoverProvider\":true,\"positionEncoding\":\"utf-16\",\"referencesProvider\":true,\"renameProvider\":{\"prepareProvider\":true},\"selectionRangeProvider\":true,\"semanticTokensProvider\":{\"full\":true,\"legend\":{\"tokenModifiers\":[],\"tokenTypes\":[\"keyword\",\"type\",\"string\",\"comment\",\"operator\",\"variable\",\"namespace\"]}},\"textDocumentSync\":{\"change\":2,\"openClose\":true},\"workspace\":{\"workspaceFolders\":{\"changeNotifications\":true,\"supported\":true}},\"workspaceSymbolProvider\":true},\"serverInfo\":{\"name\":\"wacx\",\"version\":\"1.2.3\"}}}",
-    ),
-    (
-        "{\"jsonrpc\":\"2.0\",\"method\":\"textDocument/didOpen\",\"params\":{\"textDocument\":{\"languageId\":\"wac\",\"text\":\"package a:b;\\nlte x = y;\\n\",\"uri\":\"file:///project/a%20b.wac\",\"version\":1}}}",
-        "{\"jsonrpc\":\"2.0\",\"method\":\"textDocument/publishDiagnostics\",\"params\":{\"diagnostics\":[{\"code\":\"wac::expected-multiple\",\"message\":\"expected either `import` keyword, `let` keyword, `export` keyword, `interface` keyword, `world` keyword, `variant` keyword, `record` keyword, `flags` keyword, `enum` keyword, or `type` keyword, found identifier\\ndid you mean `let`?\",\"range\":{\"end\":{\"character\":3,\"line\":1},\"start\":{\"character\":0,\"line\":1}},\"relatedInformation\":[],\"severity\":1,\"source\":\"wac\"}],\"uri\":\"file:///project/a%20b.wac\",\"version\":1}}",
-    ),
-    (
-        "{\"id\":20,\"jsonrpc\":\"2.0\",\"method\":\"textDocument/codeAction\",\"params\":{\"context\":{\"diagnostics\":[]},\"range\":{\"end\":{\"character\":1,\"line\":1},\"start\":{\"character\":1,\"line\":1}},\"textDocument\":{\"uri\":\"file:///project/a%20b.wac\"}}}",
-        "{\"id\":20,\"jsonrpc\":\"2.0\",\"result\":[{\"diagnostics\":[{\"code\":\"wac::expected-multiple\",\"message\":\"expected either `import` keyword, `let` keyword, `export` keyword, `interface` keyword, `world` keyword, `variant` keyword, `record` keyword, `flags` keyword, `enum` keyword, or `type` keyword, found identifier\\ndid you mean `let`?\",\"range\":{\"end\":{\"character\":3,\"line\":1},\"start\":{\"character\":0,\"line\":1}},\"relatedInformation\":[],\"severity\":1,\"source\":\"wac\"}],\"edit\":{\"changes\":{\"file:///project/a%20b.wac\":[{\"newText\":\"let\",\"range\":{\"end\":{\"character\":3,\"line\":1},\"start\":{\"character\":0,\"line\":1}}}]}},\"kind\":\"quickfix\",\"title\":\"did you mean `let`?\"}]}",
-    ),
-    (
-        "{\"id\":21,\"jsonrpc\":\"2.0\",\"method\":\"textDocument/codeAction\",\"params\":{\"context\":{\"diagnostics\":[]},\"range\":{\"end\":{\"character\":12,\"line\":0},\"start\":{\"character\":0,\"line\":0}},\"textDocument\":{\"uri\":\"file:///project/a%20b.wac\"}}}",
-        "{\"id\":21,\"jsonrpc\":\"2.0\",\"result\":[]}",
-    ),
-    (
-        "{\"id\":24,\"jsonrpc\":\"2.0\",\"method\":\"textDocument/formatting\",\"params\":{\"options\":{\"insertSpaces\":true,\"tabSize\":4},\"textDocument\":{\"uri\":\"file:///project/a%20b.wac\"}}}",
-        "{\"id\":24,\"jsonrpc\":\"2.0\",\"result\":[]}",
-    ),
-    (
-        "{\"jsonrpc\":\"2.0\",\"method\":\"textDocument/didChange\",\"params\":{\"contentChanges\":[{\"range\":{\"end\":{\"character\":3,\"line\":1},\"start\":{\"character\":0,\"line\":1}},\"text\":\"let\"}],\"textDocument\":{\"uri\":\"file:///project/a%20b.wac\",\"version\":2}}}",
-        "{\"jsonrpc\":\"2.0\",\"method\":\"textDocument/publishDiagnostics\",\"params\":{\"diagnostics\":[{\"code\":\"wac::undefined-name\",\"message\":\"undefined name `y`\",\"range\":{\"end\":{\"character\":9,\"line\":1},\"start\":{\"character\":8,\"line\":1}},\"relatedInformation\":[],\"severity\":1,\"source\":\"wac\"}],\"uri\":\"file:///project/a%20b.wac\",\"version\":2}}",
-    ),
-    (
-        "{\"jsonrpc\":\"2.0\",\"method\":\"textDocument/didChange\",\"params\":{\"contentChanges\":[{\"range\":{\"end\":{\"character\":0,\"line\":2},\"start\":{\"character\":0,\"line\":1}},\"text\":\"/* \u{e9} */ import y:  func();\\n\"},{\"range\":{\"end\":{\"character\":0,\"line\":2},\"start\":{\"character\":0,\"line\":2}},\"text\":\"let x = y;\"}],\"textDocument\":{\"uri\":\"file:///project/a%20b.wac\",\"version\":3}}}",
-        "{\"jsonrpc\":\"2.0\",\"method\":\"textDocument/publishDiagnostics\",\"params\":{\"diagnostics\":[],\"uri\":\"file:///project/a%20b.wac\",\"version\":3}}",
-    ),
-    (
-        "{\"id\":2,\"jsonrpc\":\"2.0\",\"method\":\"textDocument/formatting\",\"params\":{\"options\":{\"insertSpaces\":true,\"tabSize\":4},\"textDocument\":{\"uri\":\"file:///project/a%20b.wac\"}}}",
-        "{\"id\":2,\"jsonrpc\":\"2.0\",\"result\":[{\"newText\":\"\\n/* \u{e9} */ import y: func();\\n\\nlet x = y;\\n\",\"range\":{\"end\":{\"character\":10,\"line\":2},\"start\":{\"character\":0,\"line\":1}}}]}",
-    ),
-    (
-        "{\"id\":3,\"jsonrpc\":\"2.0\",\"method\":\"textDocument/documentSymbol\",\"params\":{\"textDocument\":{\"uri\":\"file:///project/a%20b.wac\"}}}",
-        "{\"id\":3,\"jsonrpc\":\"2.0\",\"result\":[{\"children\":[],\"detail\":\"func()\",\"kind\":13,\"name\":\"y\",\"range\":{\"end\":{\"character\":26,\"line\":1},\"start\":{\"character\":8,\"line\":1}},\"selectionRange\":{\"end\":{\"character\":16,\"line\":1},\"start\":{\"character\":15,\"line\":1}}},{\"children\":[],\"detail\":\"y\",\"kind\":13,\"name\":\"x\",\"range\":{\"end\":{\"character\":10,\"line\":2},\"start\":{\"character\":0,\"line\":2}},\"selectionRange\":{\"end\":{\"character\":5,\"line\":2},\"start\":{\"character\":4,\"line\":2}}}]}",
-    ),
-    (
-        "{\"id\":4,\"jsonrpc\":\"2.0\",\"method\":\"textDocument/semanticTokens/full\",\"params\":{\"textDocument\":{\"uri\":\"file:///project/a%20b.wac\"}}}",
-        "{\"id\":4,\"jsonrpc\":\"2.0\",\"result\":{\"data\":[0,0,7,0,0,0,8,3,6,0,0,3,1,4,0,1,0,7,3,0,0,8,6,0,0,0,7,1,5,0,0,1,1,4,0,0,3,4,0,0,0,4,1,4,0,0,1,1,4,0,0,1,1,4,0,1,0,3,0,0,0,4,1,5,0,0,2,1,4,0,0,2,1,5,0,0,1,1,4,0]}}",
-    ),
-    (
-        "{\"jsonrpc\":\"2.0\",\"method\":\"textDocument/didChange\",\"params\":{\"contentChanges\":[{\"text\":\"package a:b;\\ninterface i {\\n  record r { a: u8 }\\n  f: func();\\n}\\n\"}],\"textDocument\":{\"uri\":\"file:///project/a%20b.wac\",\"version\":4}}}",
-        "{\"jsonrpc\":\"2.0\",\"method\":\"textDocument/publishDiagnostics\",\"params\":{\"diagnostics\":[],\"uri\":\"file:///project/a%20b.wac\",\"version\":4}}",
-    ),
-    (
-        "{\"id\":5,\"jsonrpc\":\"2.0\",\"method\":\"textDocument/documentSymbol\",\"params\":{\"textDocument\":{\"uri\":\"file:///project/a%20b.wac\"}}}",
-        "{\"id\":5,\"jsonrpc\":\"2.0\",\"result\":[{\"children\":[{\"children\":[{\"children\":[],\"detail\":\"u8\",\"kind\":8,\"name\":\"a\",\"range\":{\"end\":{\"character\":18,\"line\":2},\"start\":{\"character\":13,\"line\":2}},\"selectionRange\":{\"end\":{\"character\":14,\"line\":2},\"start\":{\"character\":13,\"line\":2}}}],\"kind\":23,\"name\":\"r\",\"range\":{\"end\":{\"character\":20,\"line\":2},\"start\":{\"character\":2,\"line\":2}},\"selectionRange\":{\"end\":{\"character\":10,\"line\":2},\"start\":{\"character\":9,\"line\":2}}},{\"children\":[],\"detail\":\"func()\",\"kind\":12,\"name\":\"f\",\"range\":{\"end\":{\"character\":12,\"line\":3},\"start\":{\"character\":2,\"line\":3}},\"selectionRange\":{\"end\":{\"character\":3,\"line\":3},\"start\":{\"character\":2,\"line\":3}}}],\"kind\":11,\"name\":\"i\",\"range\":{\"end\":{\"character\":1,\"line\":4},\"start\":{\"character\":0,\"line\":1}},\"selectionRange\":{\"end\":{\"character\":11,\"line\":1},\"start\":{\"character\":10,\"line\":1}}}]}",
-    ),
-    (
-        "{\"jsonrpc\":\"2.0\",\"method\":\"workspace/didChangeWatchedFiles\",\"params\":{\"changes\":[]}}",
-        "{\"jsonrpc\":\"2.0\",\"method\":\"textDocument/publishDiagnostics\",\"params\":{\"diagnostics\":[],\"uri\":\"file:///project/a%20b.wac\",\"version\":4}}",
-    ),
-    (
-        "{\"id\":25,\"jsonrpc\":\"2.0\",\"method\":\"workspace/symbol\",\"params\":{\"query\":\"f\"}}",
-        "{\"id\":25,\"jsonrpc\":\"2.0\",\"result\":[{\"kind\":12,\"location\":{\"range\":{\"end\":{\"character\":12,\"line\":3},\"start\":{\"character\":2,\"line\":3}},\"uri\":\"file:///project/a%20b.wac\"},\"name\":\"f\"}]}",
-    ),
-    (
-        "{\"id\":22,\"jsonrpc\":\"2.0\",\"method\":\"textDocument/foldingRange\",\"params\":{\"textDocument\":{\"uri\":\"file:///project/a%20b.wac\"}}}",
-        "{\"id\":22,\"jsonrpc\":\"2.0\",\"result\":[{\"endLine\":4,\"startLine\":1}]}",
-    ),
-    (
-        "{\"id\":23,\"jsonrpc\":\"2.0\",\"method\":\"textDocument/selectionRange\",\"params\":{\"positions\":[{\"character\":13,\"line\":2}],\"textDocument\":{\"uri\":\"file:///project/a%20b.wac\"}}}",
-        "{\"id\":23,\"jsonrpc\":\"2.0\",\"result\":[{\"parent\":{\"parent\":{\"parent\":{\"range\":{\"end\":{\"character\":0,\"line\":5},\"start\":{\"character\":0,\"line\":0}}},\"range\":{\"end\":{\"character\":1,\"line\":4},\"start\":{\"character\":12,\"line\":1}}},\"range\":{\"end\":{\"character\":20,\"line\":2},\"start\":{\"character\":11,\"line\":2}}},\"range\":{\"end\":{\"character\":14,\"line\":2},\"start\":{\"character\":13,\"line\":2}}}]}",
-    ),
-    (
-        "{\"jsonrpc\":\"2.0\",\"method\":\"textDocument/didChange\",\"params\":{\"contentChanges\":[],\"textDocument\":{\"uri\":\"file:///project/a%20b.wac\",\"version\":5}}}",
-        "{\"jsonrpc\":\"2.0\",\"method\":\"textDocument/publishDiagnostics\",\"params\":{\"diagnostics\":[],\"uri\":\"file:///project/a%20b.wac\",\"version\":5}}",
-    ),
-    (
-        "{\"jsonrpc\":\"2.0\",\"method\":\"textDocument/didChange\",\"params\":{\"contentChanges\":[{\"text\":\"\"}],\"textDocument\":{\"uri\":\"other\",\"version\":5}}}",
-        "",
-    ),
-    (
-        "{\"jsonrpc\":\"2.0\",\"method\":\"textDocument/didClose\",\"params\":{\"textDocument\":{\"uri\":\"file:///project/a%20b.wac\"}}}",
-        "{\"jsonrpc\":\"2.0\",\"method\":\"textDocument/publishDiagnostics\",\"params\":{\"diagnostics\":[],\"uri\":\"file:///project/a%20b.wac\"}}",
-    ),
-    (
-        "{\"id\":6,\"jsonrpc\":\"2.0\",\"method\":\"textDocument/formatting\",\"params\":{\"options\":{\"insertSpaces\":true,\"tabSize\":4},\"textDocument\":{\"uri\":\"file:///project/a%20b.wac\"}}}",
-        "{\"error\":{\"code\":-32602,\"message\":\"the document is not open\"},\"id\":6,\"jsonrpc\":\"2.0\"}",
-    ),
-    ("{\"jsonrpc\":\"2.0\",\"method\":\"exit\"}", "status 1"),
-];
-
-/// Columns are counted in bytes, and the outline has no declarations within others.
-static BYTES: [Row; 13] = [
-    (
-        "{\"id\":1,\"jsonrpc\":\"2.0\",\"method\":\"initialize\",\"params\":{\"capabilities\":{\"general\":{\"positionEncodings\":[\"utf-8\",\"utf-16\"]}},\"processId\":null}}",
-        "{\"id\":1,\"jsonrpc\":\"2.0\",\"result\":{\"capabilities\":{\"codeActionProvider\":false,\"completionProvider\":{\"triggerCharacters\":[\".\",\"{\",\":\",\"/\",\"\\\"\"]},\"definitionProvider\":true,\"documentFormattingProvider\":true,\"documentHighlightProvider\":true,\"documentRangeFormattingProvider\":true,\"documentSymbolProvider\":true,\"foldingRangeProvider\":true,\"hoverProvider\":true,\"positionEncoding\":\"utf-8\",\"referencesProvider\":true,\"renameProvider\":true,\"selectionRangeProvider\":true,\"semanticTokensProvider\":{\"full\":true,\"legend\":{\"tokenModifiers\":[],\"tokenTypes\":[\"keyword\",\"type\",\"string\",\"comment\",\"operator\",\"variable\",\"namespace\"]}},\"textDocumentSync\":{\"change\":2,\"openClose\":true},\"workspace\":{\"workspaceFolders\":{\"changeNotifications\":true,\"supported\":true}},\"workspaceSymbolProvider\":true},\"serverInfo\":{\"name\":\"wacx\",\"version\":\"1.2.3\"}}}",
-    ),
-    (
-        "{\"jsonrpc\":\"2.0\",\"method\":\"textDocument/didOpen\",\"params\":{\"textDocument\":{\"languageId\":\"wac\",\"text\":\"package a:b;\\n/* \u{e9} */ let x = y;\\n\",\"uri\":\"file:///project/a%20b.wac\",\"version\":7}}}",
-        "{\"jsonrpc\":\"2.0\",\"method\":\"textDocument/publishDiagnostics\",\"params\":{\"diagnostics\":[{\"code\":\"wac::undefined-name\",\"message\":\"undefined name `y`\",\"range\":{\"end\":{\"character\":18,\"line\":1},\"start\":{\"character\":17,\"line\":1}},\"severity\":1,\"source\":\"wac\"}],\"uri\":\"file:///project/a%20b.wac\",\"version\":7}}",
-    ),
-    (
-        "{\"id\":2,\"jsonrpc\":\"2.0\",\"method\":\"textDocument/documentSymbol\",\"params\":{\"textDocument\":{\"uri\":\"file:///project/a%20b.wac\"}}}",
-        "{\"id\":2,\"jsonrpc\":\"2.0\",\"result\":[{\"kind\":13,\"location\":{\"range\":{\"end\":{\"character\":19,\"line\":1},\"start\":{\"character\":9,\"line\":1}},\"uri\":\"file:///project/a%20b.wac\"},\"name\":\"x\"}]}",
-    ),
-    ("{\"id\":2,\"jsonrpc\":\"2.0\",\"result\":null}", ""),
-    (
-        "{\"jsonrpc\":\"2.0\",\"method\":\"textDocument/didChange\",\"params\":{\"contentChanges\":[{\"text\":\"package a:b;\\n\\ninterface i {\\n\\tf: func();\\n}\\n\"}],\"textDocument\":{\"uri\":\"file:///project/a%20b.wac\",\"version\":8}}}",
-        "{\"jsonrpc\":\"2.0\",\"method\":\"textDocument/publishDiagnostics\",\"params\":{\"diagnostics\":[],\"uri\":\"file:///project/a%20b.wac\",\"version\":8}}",
-    ),
-    (
-        "{\"id\":3,\"jsonrpc\":\"2.0\",\"method\":\"textDocument/formatting\",\"params\":{\"options\":{\"insertSpaces\":false,\"tabSize\":8},\"textDocument\":{\"uri\":\"file:///project/a%20b.wac\"}}}",
-        "{\"id\":3,\"jsonrpc\":\"2.0\",\"result\":[]}",
-    ),
-    (
-        "{\"id\":4,\"jsonrpc\":\"2.0\",\"method\":\"textDocument/formatting\",\"params\":{\"options\":{\"insertSpaces\":true,\"tabSize\":2},\"textDocument\":{\"uri\":\"file:///project/a%20b.wac\"}}}",
-        "{\"id\":4,\"jsonrpc\":\"2.0\",\"result\":[{\"newText\":\"  f: func();\\n\",\"range\":{\"end\":{\"character\":0,\"line\":4},\"start\":{\"character\":0,\"line\":3}}}]}",
-    ),
-    (
-        "{\"jsonrpc\":\"2.0\",\"method\":\"textDocument/didChange\",\"params\":{\"contentChanges\":[{\"text\":\"package a:b;\\nimport y:  func();\\nlet  x = y; // c\\n\"}],\"textDocument\":{\"uri\":\"file:///project/a%20b.wac\",\"version\":9}}}",
-        "{\"jsonrpc\":\"2.0\",\"method\":\"textDocument/publishDiagnostics\",\"params\":{\"diagnostics\":[],\"uri\":\"file:///project/a%20b.wac\",\"version\":9}}",
-    ),
-    (
-        "{\"id\":6,\"jsonrpc\":\"2.0\",\"method\":\"textDocument/rangeFormatting\",\"params\":{\"options\":{\"insertSpaces\":true,\"tabSize\":4},\"range\":{\"end\":{\"character\":5,\"line\":2},\"start\":{\"character\":0,\"line\":2}},\"textDocument\":{\"uri\":\"file:///project/a%20b.wac\"}}}",
-        "{\"id\":6,\"jsonrpc\":\"2.0\",\"result\":[{\"newText\":\"\\n\\nlet x = y;\",\"range\":{\"end\":{\"character\":11,\"line\":2},\"start\":{\"character\":18,\"line\":1}}}]}",
-    ),
-    (
-        "{\"jsonrpc\":\"2.0\",\"method\":\"textDocument/didChange\",\"params\":{\"contentChanges\":[{\"text\":\"package a:b;\\nlet x\u{202e} = y;\\n\"}],\"textDocument\":{\"uri\":\"file:///project/a%20b.wac\",\"version\":10}}}",
-        "{\"jsonrpc\":\"2.0\",\"method\":\"textDocument/publishDiagnostics\",\"params\":{\"diagnostics\":[{\"code\":\"wac::disallowed-bidirectional-override\",\"message\":\"disallowed bidirectional override codepoint `\\\\u{202e}`\\nremove it: it makes a text look other than it is\",\"range\":{\"end\":{\"character\":8,\"line\":1},\"start\":{\"character\":5,\"line\":1}},\"severity\":1,\"source\":\"wac\"}],\"uri\":\"file:///project/a%20b.wac\",\"version\":10}}",
-    ),
-    (
-        "{\"id\":7,\"jsonrpc\":\"2.0\",\"method\":\"textDocument/semanticTokens/full\",\"params\":{\"textDocument\":{\"uri\":\"file:///project/a%20b.wac\"}}}",
-        "{\"id\":7,\"jsonrpc\":\"2.0\",\"result\":{\"data\":[0,0,7,0,0,0,8,3,6,0,0,3,1,4,0,1,0,3,0,0,0,4,1,5,0]}}",
-    ),
-    (
-        "{\"id\":5,\"jsonrpc\":\"2.0\",\"method\":\"shutdown\",\"params\":{}}",
-        "{\"id\":5,\"jsonrpc\":\"2.0\",\"result\":null}",
-    ),
-    (
-        "{\"jsonrpc\":\"2.0\",\"method\":\"exit\",\"params\":{}}",
-        "status 0",
+        "{\"jsonrpc\":\"2.0\",\"method\":\"workspace/didChangeWorkspaceFolders\",\"params\":{\"event\":{\"added\":[{\"name\":\"p\",\"uri\":\"https://example.org/p\"}],\"removed\":[{\"name\":\"p\",\"uri\":\"file:///my%20project\"}]}}}",
+        "{\"jsonrpc\":\"2.0\",\"method\":\"textDocument/publishDiagnostics\",\"params\":{\"diagnostics\":[],\"uri\":\"file:///my%20project/app.wac\",\"version\":1}}\n\
+         {\"jsonrpc\":\"2.0\",\"method\":\"textDocument/publishDiagnostics\",\"params\":{\"diagnostics\":[],\"uri\":\"file:///my%20project/%62.wac\",\"version\":1}}\n",
     ),
 ];
 
-/// A document is laid out by edits of the lines that differ, from the last to the first.
-static LAYOUT: [Row; 9] = [
+/// The document of `a:b` is open, and a change of it is lost.
+static LOST: [Row; 5] = [
     (
-        "{\"id\":1,\"jsonrpc\":\"2.0\",\"method\":\"initialize\",\"params\":{\"capabilities\":{\"textDocument\":{\"codeAction\":{\"codeActionLiteralSupport\":{\"codeActionKind\":{\"valueSet\":[\"quickfix\"]}}},\"documentSymbol\":{\"hierarchicalDocumentSymbolSupport\":true},\"foldingRange\":{\"lineFoldingOnly\":true},\"publishDiagnostics\":{\"codeDescriptionSupport\":true,\"relatedInformation\":true},\"rename\":{\"prepareSupport\":true}}},\"processId\":null}}",
-        "{\"id\":1,\"jsonrpc\":\"2.0\",\"result\":{\"capabilities\":{\"codeActionProvider\":{\"codeActionKinds\":[\"quickfix\"]},\"completionProvider\":{\"triggerCharacters\":[\".\",\"{\",\":\",\"/\",\"\\\"\"]},\"definitionProvider\":true,\"documentFormattingProvider\":true,\"documentHighlightProvider\":true,\"documentRangeFormattingProvider\":true,\"documentSymbolProvider\":true,\"foldingRangeProvider\":true,\"hoverProvider\":true,\"positionEncoding\":\"utf-16\",\"referencesProvider\":true,\"renameProvider\":{\"prepareProvider\":true},\"selectionRangeProvider\":true,\"semanticTokensProvider\":{\"full\":true,\"legend\":{\"tokenModifiers\":[],\"tokenTypes\":[\"keyword\",\"type\",\"string\",\"comment\",\"operator\",\"variable\",\"namespace\"]}},\"textDocumentSync\":{\"change\":2,\"openClose\":true},\"workspace\":{\"workspaceFolders\":{\"changeNotifications\":true,\"supported\":true}},\"workspaceSymbolProvider\":true},\"serverInfo\":{\"name\":\"wacx\",\"version\":\"1.2.3\"}}}",
+        "{\"jsonrpc\":\"2.0\",\"method\":\"initialized\",\"params\":{}}",
+        "{\"id\":\"files\",\"jsonrpc\":\"2.0\",\"method\":\"client/registerCapability\",\"params\":{\"registrations\":[{\"id\":\"files\",\"method\":\"workspace/didChangeWatchedFiles\",\"registerOptions\":{\"watchers\":[{\"globPattern\":\"**/*.{wac,wasm}\"}]}}]}}\n",
     ),
     (
-        "{\"jsonrpc\":\"2.0\",\"method\":\"textDocument/didOpen\",\"params\":{\"textDocument\":{\"languageId\":\"wac\",\"text\":\"package a:b;\\n\\nimport y:  func();\\n\\ninterface i {\\n    f: func();\\n}\\n\\nlet  x = y;\\n\",\"uri\":\"file:///project/a%20b.wac\",\"version\":1}}}",
-        "{\"jsonrpc\":\"2.0\",\"method\":\"textDocument/publishDiagnostics\",\"params\":{\"diagnostics\":[],\"uri\":\"file:///project/a%20b.wac\",\"version\":1}}",
+        "{\"jsonrpc\":\"2.0\",\"method\":\"textDocument/didOpen\",\"params\":{\"textDocument\":{\"languageId\":\"wac\",\"text\":\"package a:app;\\nlet x = new a:b { };\\nexport x.f;\\n\",\"uri\":\"file:///my%20project/app.wac\",\"version\":1}}}",
+        "{\"jsonrpc\":\"2.0\",\"method\":\"textDocument/publishDiagnostics\",\"params\":{\"diagnostics\":[],\"uri\":\"file:///my%20project/app.wac\",\"version\":1}}\n",
     ),
     (
-        "{\"id\":2,\"jsonrpc\":\"2.0\",\"method\":\"textDocument/formatting\",\"params\":{\"options\":{\"insertSpaces\":true,\"tabSize\":4},\"textDocument\":{\"uri\":\"file:///project/a%20b.wac\"}}}",
-        "{\"id\":2,\"jsonrpc\":\"2.0\",\"result\":[{\"newText\":\"let x = y;\\n\",\"range\":{\"end\":{\"character\":0,\"line\":9},\"start\":{\"character\":0,\"line\":8}}},{\"newText\":\"import y: func();\\n\",\"range\":{\"end\":{\"character\":0,\"line\":3},\"start\":{\"character\":0,\"line\":2}}}]}",
+        "{\"jsonrpc\":\"2.0\",\"method\":\"textDocument/didOpen\",\"params\":{\"textDocument\":{\"languageId\":\"wac\",\"text\":\"package a:b;\\nworld w { }\\n\",\"uri\":\"file:///my%20project/%62.wac\",\"version\":1}}}",
+        "{\"jsonrpc\":\"2.0\",\"method\":\"textDocument/publishDiagnostics\",\"params\":{\"diagnostics\":[{\"code\":\"wac::missing-instance-export\",\"message\":\"the instance has no export named `f`\\n`x` has nothing\",\"range\":{\"end\":{\"character\":10,\"line\":2},\"start\":{\"character\":8,\"line\":2}},\"relatedInformation\":[],\"severity\":1,\"source\":\"wac\"}],\"uri\":\"file:///my%20project/app.wac\",\"version\":1}}\n\
+         {\"jsonrpc\":\"2.0\",\"method\":\"textDocument/publishDiagnostics\",\"params\":{\"diagnostics\":[],\"uri\":\"file:///my%20project/%62.wac\",\"version\":1}}\n",
     ),
+    // The file of the document stands for itself then.
     (
-        "{\"jsonrpc\":\"2.0\",\"method\":\"textDocument/didChange\",\"params\":{\"contentChanges\":[{\"text\":\"package a:b;\\nimport y: func();\\n\\n\\n\\nlet x = y;\\n\"}],\"textDocument\":{\"uri\":\"file:///project/a%20b.wac\",\"version\":2}}}",
-        "{\"jsonrpc\":\"2.0\",\"method\":\"textDocument/publishDiagnostics\",\"params\":{\"diagnostics\":[],\"uri\":\"file:///project/a%20b.wac\",\"version\":2}}",
+        "{\"jsonrpc\":\"2.0\",\"method\":\"textDocument/didChange\",\"params\":{\"contentChanges\":[{\"text\":3}],\"textDocument\":{\"uri\":\"file:///my%20project/%62.wac\",\"version\":2}}}",
+        "{\"jsonrpc\":\"2.0\",\"method\":\"textDocument/publishDiagnostics\",\"params\":{\"diagnostics\":[{\"message\":\"a change of this document couldn't be read, so its text isn't known here; close it and open it anew\",\"range\":{\"end\":{\"character\":0,\"line\":0},\"start\":{\"character\":0,\"line\":0}},\"severity\":1,\"source\":\"wac\"}],\"uri\":\"file:///my%20project/%62.wac\"}}\n\
+         {\"jsonrpc\":\"2.0\",\"method\":\"textDocument/publishDiagnostics\",\"params\":{\"diagnostics\":[],\"uri\":\"file:///my%20project/app.wac\",\"version\":1}}\n\
+         {\"jsonrpc\":\"2.0\",\"method\":\"textDocument/publishDiagnostics\",\"params\":{\"diagnostics\":[{\"message\":\"a change of this document couldn't be read, so its text isn't known here; close it and open it anew\",\"range\":{\"end\":{\"character\":0,\"line\":0},\"start\":{\"character\":0,\"line\":0}},\"severity\":1,\"source\":\"wac\"}],\"uri\":\"file:///my%20project/%62.wac\"}}\n",
     ),
+    // Folders are read anew, and its text isn't taken.
     (
-        "{\"id\":3,\"jsonrpc\":\"2.0\",\"method\":\"textDocument/formatting\",\"params\":{\"options\":{\"insertSpaces\":true,\"tabSize\":4},\"textDocument\":{\"uri\":\"file:///project/a%20b.wac\"}}}",
-        "{\"id\":3,\"jsonrpc\":\"2.0\",\"result\":[{\"newText\":\"\",\"range\":{\"end\":{\"character\":0,\"line\":5},\"start\":{\"character\":0,\"line\":3}}},{\"newText\":\"\\n\",\"range\":{\"end\":{\"character\":0,\"line\":1},\"start\":{\"character\":0,\"line\":1}}}]}",
-    ),
-    (
-        "{\"jsonrpc\":\"2.0\",\"method\":\"textDocument/didChange\",\"params\":{\"contentChanges\":[{\"text\":\"package a:b;\\n\\ninterface i {\\n    record r { a: u8 }\\n}\\n\\nimport y: func();\"}],\"textDocument\":{\"uri\":\"file:///project/a%20b.wac\",\"version\":3}}}",
-        "{\"jsonrpc\":\"2.0\",\"method\":\"textDocument/publishDiagnostics\",\"params\":{\"diagnostics\":[],\"uri\":\"file:///project/a%20b.wac\",\"version\":3}}",
-    ),
-    (
-        "{\"id\":4,\"jsonrpc\":\"2.0\",\"method\":\"textDocument/formatting\",\"params\":{\"options\":{\"insertSpaces\":true,\"tabSize\":4},\"textDocument\":{\"uri\":\"file:///project/a%20b.wac\"}}}",
-        "{\"id\":4,\"jsonrpc\":\"2.0\",\"result\":[{\"newText\":\"import y: func();\\n\",\"range\":{\"end\":{\"character\":17,\"line\":6},\"start\":{\"character\":0,\"line\":6}}},{\"newText\":\"    record r {\\n        a: u8,\\n    }\\n\",\"range\":{\"end\":{\"character\":0,\"line\":4},\"start\":{\"character\":0,\"line\":3}}}]}",
-    ),
-    (
-        "{\"jsonrpc\":\"2.0\",\"method\":\"textDocument/didChange\",\"params\":{\"contentChanges\":[{\"text\":\"package a:b;\\n\\n\\nimport y: func();\\n\\nlet x = y;\\n\"}],\"textDocument\":{\"uri\":\"file:///project/a%20b.wac\",\"version\":4}}}",
-        "{\"jsonrpc\":\"2.0\",\"method\":\"textDocument/publishDiagnostics\",\"params\":{\"diagnostics\":[],\"uri\":\"file:///project/a%20b.wac\",\"version\":4}}",
-    ),
-    (
-        "{\"id\":5,\"jsonrpc\":\"2.0\",\"method\":\"textDocument/formatting\",\"params\":{\"options\":{\"insertSpaces\":true,\"tabSize\":4},\"textDocument\":{\"uri\":\"file:///project/a%20b.wac\"}}}",
-        "{\"id\":5,\"jsonrpc\":\"2.0\",\"result\":[{\"newText\":\"\",\"range\":{\"end\":{\"character\":0,\"line\":3},\"start\":{\"character\":0,\"line\":2}}}]}",
+        "{\"jsonrpc\":\"2.0\",\"method\":\"workspace/didChangeWorkspaceFolders\",\"params\":{\"event\":{\"added\":[],\"removed\":[]}}}",
+        "{\"jsonrpc\":\"2.0\",\"method\":\"textDocument/publishDiagnostics\",\"params\":{\"diagnostics\":[],\"uri\":\"file:///my%20project/app.wac\",\"version\":1}}\n\
+         {\"jsonrpc\":\"2.0\",\"method\":\"textDocument/publishDiagnostics\",\"params\":{\"diagnostics\":[{\"message\":\"a change of this document couldn't be read, so its text isn't known here; close it and open it anew\",\"range\":{\"end\":{\"character\":0,\"line\":0},\"start\":{\"character\":0,\"line\":0}},\"severity\":1,\"source\":\"wac\"}],\"uri\":\"file:///my%20project/%62.wac\"}}\n",
     ),
 ];
 
-/// A change of a document can't be read: its text isn't known until it is opened anew, or a whole text comes.
-static LOST: [Row; 17] = [
+/// A component that imports a function `f` and exports it as `g`: the preamble, then the type, the import and the export.
+const COMPONENT: &str = "\0asm\x0d\0\x01\0\
+     \x07\x05\x01\x40\0\x01\0\
+     \x0a\x06\x01\0\x01f\x01\0\
+     \x0b\x07\x01\0\x01g\x01\0\0";
+
+/// A package whose world has interfaces without a path, and a component of it; another component; a package of two worlds;
+/// and a package in a folder that isn't entered.
+static PACKAGES: [(&str, &str); 5] = [
     (
-        "{\"id\":1,\"jsonrpc\":\"2.0\",\"method\":\"initialize\",\"params\":{\"capabilities\":{},\"processId\":null}}",
-        "{\"id\":1,\"jsonrpc\":\"2.0\",\"result\":{\"capabilities\":{\"codeActionProvider\":false,\"completionProvider\":{\"triggerCharacters\":[\".\",\"{\",\":\",\"/\",\"\\\"\"]},\"definitionProvider\":true,\"documentFormattingProvider\":true,\"documentHighlightProvider\":true,\"documentRangeFormattingProvider\":true,\"documentSymbolProvider\":true,\"foldingRangeProvider\":true,\"hoverProvider\":true,\"positionEncoding\":\"utf-16\",\"referencesProvider\":true,\"renameProvider\":true,\"selectionRangeProvider\":true,\"semanticTokensProvider\":{\"full\":true,\"legend\":{\"tokenModifiers\":[],\"tokenTypes\":[\"keyword\",\"type\",\"string\",\"comment\",\"operator\",\"variable\",\"namespace\"]}},\"textDocumentSync\":{\"change\":2,\"openClose\":true},\"workspace\":{\"workspaceFolders\":{\"changeNotifications\":true,\"supported\":true}},\"workspaceSymbolProvider\":true},\"serverInfo\":{\"name\":\"wacx\",\"version\":\"1.2.3\"}}}",
+        "/p/d.wac",
+        "package c:d;\n\ninterface f {\n    h: func();\n}\n\nworld w {\n    import e: interface {\n        f: func();\n    };\n    export e: interface {\n        /// Goes.\n        f: func(\n            x: u8,\n        );\n        type t = u8;\n    };\n    export f: func();\n}\n",
+    ),
+    ("/p/deps/c/d.wasm", COMPONENT),
+    ("/p/deps/k/m.wasm", COMPONENT),
+    (
+        "/p/two.wac",
+        "package t:w;\nworld v { }\nworld w { export f: func(); }\n",
+    ),
+    ("/p/target/x.wac", "package t:x;\nworld w { }\n"),
+];
+
+/// A client begins with their folder.
+const BEGINS_WITH_PACKAGES: &str =
+    "{\"id\":0,\"jsonrpc\":\"2.0\",\"method\":\"initialize\",\"params\":{\"capabilities\":{},\"workspaceFolders\":[{\"name\":\"p\",\"uri\":\"file:///p\"}]}}";
+
+/// What is told of compositions of these.
+static OF_PACKAGES: [Row; 10] = [
+    // A package with two worlds of which none is chosen is no error.
+    (
+        "{\"jsonrpc\":\"2.0\",\"method\":\"textDocument/didOpen\",\"params\":{\"textDocument\":{\"languageId\":\"wac\",\"text\":\"package a:app;\\nlet x = new t:w { };\\n\",\"uri\":\"file:///p/app.wac\",\"version\":1}}}",
+        "{\"jsonrpc\":\"2.0\",\"method\":\"textDocument/publishDiagnostics\",\"params\":{\"diagnostics\":[],\"uri\":\"file:///p/app.wac\",\"version\":1}}\n",
+    ),
+    // A folder of what was built isn't entered.
+    (
+        "{\"jsonrpc\":\"2.0\",\"method\":\"textDocument/didChange\",\"params\":{\"contentChanges\":[{\"text\":\"package a:app;\\nlet x = new t:x { };\\n\"}],\"textDocument\":{\"uri\":\"file:///p/app.wac\",\"version\":2}}}",
+        "{\"jsonrpc\":\"2.0\",\"method\":\"textDocument/publishDiagnostics\",\"params\":{\"diagnostics\":[{\"code\":\"wac::unknown-package\",\"message\":\"unknown package `t:x`\\nno file of the folders has it\",\"range\":{\"end\":{\"character\":15,\"line\":1},\"start\":{\"character\":12,\"line\":1}},\"severity\":1,\"source\":\"wac\"}],\"uri\":\"file:///p/app.wac\",\"version\":2}}\n",
+    ),
+    // A component in `deps`.
+    (
+        "{\"jsonrpc\":\"2.0\",\"method\":\"textDocument/didChange\",\"params\":{\"contentChanges\":[{\"text\":\"package a:app;\\nlet x = new k:m { ... };\\nexport x.g;\\n\"}],\"textDocument\":{\"uri\":\"file:///p/app.wac\",\"version\":3}}}",
+        "{\"jsonrpc\":\"2.0\",\"method\":\"textDocument/publishDiagnostics\",\"params\":{\"diagnostics\":[],\"uri\":\"file:///p/app.wac\",\"version\":3}}\n",
     ),
     (
-        "{\"jsonrpc\":\"2.0\",\"method\":\"textDocument/didOpen\",\"params\":{\"textDocument\":{\"languageId\":\"wac\",\"text\":\"package a:b;\\nimport y: func();\\nlet x = y;\\n\",\"uri\":\"file:///project/a%20b.wac\",\"version\":1}}}",
-        "{\"jsonrpc\":\"2.0\",\"method\":\"textDocument/publishDiagnostics\",\"params\":{\"diagnostics\":[],\"uri\":\"file:///project/a%20b.wac\",\"version\":1}}",
+        "{\"id\":1,\"jsonrpc\":\"2.0\",\"method\":\"textDocument/hover\",\"params\":{\"position\":{\"character\":9,\"line\":2},\"textDocument\":{\"uri\":\"file:///p/app.wac\"}}}",
+        "{\"id\":1,\"jsonrpc\":\"2.0\",\"result\":{\"contents\":{\"kind\":\"plaintext\",\"value\":\"export g: func();\"},\"range\":{\"end\":{\"character\":10,\"line\":2},\"start\":{\"character\":9,\"line\":2}}}}\n",
+    ),
+    // The document of a package stands before its component.
+    (
+        "{\"jsonrpc\":\"2.0\",\"method\":\"textDocument/didChange\",\"params\":{\"contentChanges\":[{\"text\":\"package a:app;\\nlet x = new c:d { ... };\\nexport x.e.f;\\n\"}],\"textDocument\":{\"uri\":\"file:///p/app.wac\",\"version\":4}}}",
+        "{\"jsonrpc\":\"2.0\",\"method\":\"textDocument/publishDiagnostics\",\"params\":{\"diagnostics\":[],\"uri\":\"file:///p/app.wac\",\"version\":4}}\n",
     ),
     (
-        "{\"jsonrpc\":\"2.0\",\"method\":\"textDocument/didChange\",\"params\":{\"contentChanges\":[{\"range\":{\"end\":{\"character\":0,\"line\":1},\"start\":{\"character\":0,\"line\":-1}},\"text\":\"z\"}],\"textDocument\":{\"uri\":\"file:///project/a%20b.wac\",\"version\":2}}}",
-        "{\"jsonrpc\":\"2.0\",\"method\":\"textDocument/publishDiagnostics\",\"params\":{\"diagnostics\":[{\"message\":\"a change of this document couldn't be read, so its text isn't known here; close it and open it anew\",\"range\":{\"end\":{\"character\":0,\"line\":0},\"start\":{\"character\":0,\"line\":0}},\"severity\":1,\"source\":\"wac\"}],\"uri\":\"file:///project/a%20b.wac\"}}",
+        "{\"id\":2,\"jsonrpc\":\"2.0\",\"method\":\"textDocument/definition\",\"params\":{\"position\":{\"character\":11,\"line\":2},\"textDocument\":{\"uri\":\"file:///p/app.wac\"}}}",
+        "{\"id\":2,\"jsonrpc\":\"2.0\",\"result\":{\"range\":{\"end\":{\"character\":9,\"line\":12},\"start\":{\"character\":8,\"line\":12}},\"uri\":\"file:///p/d.wac\"}}\n",
     ),
     (
-        "{\"id\":2,\"jsonrpc\":\"2.0\",\"method\":\"textDocument/documentSymbol\",\"params\":{\"textDocument\":{\"uri\":\"file:///project/a%20b.wac\"}}}",
-        "{\"error\":{\"code\":-32803,\"message\":\"a change of the document couldn't be read; open it anew\"},\"id\":2,\"jsonrpc\":\"2.0\"}",
+        "{\"id\":3,\"jsonrpc\":\"2.0\",\"method\":\"textDocument/completion\",\"params\":{\"position\":{\"character\":11,\"line\":2},\"textDocument\":{\"uri\":\"file:///p/app.wac\"}}}",
+        "{\"id\":3,\"jsonrpc\":\"2.0\",\"result\":{\"isIncomplete\":false,\"items\":[{\"detail\":\"func(x: u8)\",\"kind\":3,\"label\":\"f\",\"textEdit\":{\"newText\":\"f\",\"range\":{\"end\":{\"character\":11,\"line\":2},\"start\":{\"character\":11,\"line\":2}}}},{\"detail\":\"type\",\"kind\":22,\"label\":\"t\",\"textEdit\":{\"newText\":\"t\",\"range\":{\"end\":{\"character\":11,\"line\":2},\"start\":{\"character\":11,\"line\":2}}}}]}}\n",
     ),
     (
-        "{\"id\":3,\"jsonrpc\":\"2.0\",\"method\":\"textDocument/definition\",\"params\":{\"position\":{\"character\":8,\"line\":2},\"textDocument\":{\"uri\":\"file:///project/a%20b.wac\"}}}",
-        "{\"error\":{\"code\":-32803,\"message\":\"a change of the document couldn't be read; open it anew\"},\"id\":3,\"jsonrpc\":\"2.0\"}",
+        "{\"jsonrpc\":\"2.0\",\"method\":\"textDocument/didChange\",\"params\":{\"contentChanges\":[{\"text\":\"package a:app;\\nimport x: c:d/f;\\n\"}],\"textDocument\":{\"uri\":\"file:///p/app.wac\",\"version\":5}}}",
+        "{\"jsonrpc\":\"2.0\",\"method\":\"textDocument/publishDiagnostics\",\"params\":{\"diagnostics\":[],\"uri\":\"file:///p/app.wac\",\"version\":5}}\n",
     ),
     (
-        "{\"id\":4,\"jsonrpc\":\"2.0\",\"method\":\"workspace/symbol\",\"params\":{\"query\":\"\"}}",
-        "{\"id\":4,\"jsonrpc\":\"2.0\",\"result\":[]}",
+        "{\"id\":4,\"jsonrpc\":\"2.0\",\"method\":\"textDocument/completion\",\"params\":{\"position\":{\"character\":14,\"line\":1},\"textDocument\":{\"uri\":\"file:///p/app.wac\"}}}",
+        "{\"id\":4,\"jsonrpc\":\"2.0\",\"result\":{\"isIncomplete\":false,\"items\":[{\"detail\":\"c:d/f\",\"kind\":8,\"label\":\"c:d/f\",\"textEdit\":{\"newText\":\"c:d/f\",\"range\":{\"end\":{\"character\":14,\"line\":1},\"start\":{\"character\":10,\"line\":1}}}},{\"detail\":\"c:d/w\",\"kind\":9,\"label\":\"c:d/w\",\"textEdit\":{\"newText\":\"c:d/w\",\"range\":{\"end\":{\"character\":14,\"line\":1},\"start\":{\"character\":10,\"line\":1}}}}]}}\n",
     ),
+    // It is in no folder of the client.
     (
-        "{\"jsonrpc\":\"2.0\",\"method\":\"textDocument/didChange\",\"params\":{\"contentChanges\":[{\"range\":{\"end\":{\"character\":0,\"line\":0},\"start\":{\"character\":0,\"line\":0}},\"text\":\"/**/\"}],\"textDocument\":{\"uri\":\"file:///project/a%20b.wac\",\"version\":3}}}",
-        "{\"jsonrpc\":\"2.0\",\"method\":\"textDocument/publishDiagnostics\",\"params\":{\"diagnostics\":[{\"message\":\"a change of this document couldn't be read, so its text isn't known here; close it and open it anew\",\"range\":{\"end\":{\"character\":0,\"line\":0},\"start\":{\"character\":0,\"line\":0}},\"severity\":1,\"source\":\"wac\"}],\"uri\":\"file:///project/a%20b.wac\"}}",
-    ),
-    (
-        "{\"jsonrpc\":\"2.0\",\"method\":\"workspace/didChangeWatchedFiles\",\"params\":{\"changes\":[]}}",
-        "{\"jsonrpc\":\"2.0\",\"method\":\"textDocument/publishDiagnostics\",\"params\":{\"diagnostics\":[{\"message\":\"a change of this document couldn't be read, so its text isn't known here; close it and open it anew\",\"range\":{\"end\":{\"character\":0,\"line\":0},\"start\":{\"character\":0,\"line\":0}},\"severity\":1,\"source\":\"wac\"}],\"uri\":\"file:///project/a%20b.wac\"}}",
-    ),
-    (
-        "{\"jsonrpc\":\"2.0\",\"method\":\"textDocument/didChange\",\"params\":{\"contentChanges\":[{\"range\":{\"end\":{\"character\":0,\"line\":0},\"start\":{\"character\":0,\"line\":0}},\"text\":\"/**/\"},{\"text\":\"package a:b;\\nimport y: func();\\nlet x = y;\\n\"},{\"range\":{\"end\":{\"character\":5,\"line\":2},\"start\":{\"character\":4,\"line\":2}},\"text\":\"z\"}],\"textDocument\":{\"uri\":\"file:///project/a%20b.wac\",\"version\":4}}}",
-        "{\"jsonrpc\":\"2.0\",\"method\":\"textDocument/publishDiagnostics\",\"params\":{\"diagnostics\":[],\"uri\":\"file:///project/a%20b.wac\",\"version\":4}}",
-    ),
-    (
-        "{\"id\":5,\"jsonrpc\":\"2.0\",\"method\":\"textDocument/documentSymbol\",\"params\":{\"textDocument\":{\"uri\":\"file:///project/a%20b.wac\"}}}",
-        "{\"id\":5,\"jsonrpc\":\"2.0\",\"result\":[{\"kind\":13,\"location\":{\"range\":{\"end\":{\"character\":17,\"line\":1},\"start\":{\"character\":0,\"line\":1}},\"uri\":\"file:///project/a%20b.wac\"},\"name\":\"y\"},{\"kind\":13,\"location\":{\"range\":{\"end\":{\"character\":10,\"line\":2},\"start\":{\"character\":0,\"line\":2}},\"uri\":\"file:///project/a%20b.wac\"},\"name\":\"z\"}]}",
-    ),
-    (
-        "{\"jsonrpc\":\"2.0\",\"method\":\"textDocument/didChange\",\"params\":{\"contentChanges\":[{\"text\":\"package a:b;\\nimport y: func();\\nlet x = y;\\n\"}],\"textDocument\":{\"uri\":\"file:///project/a%20b.wac\",\"version\":null}}}",
-        "{\"jsonrpc\":\"2.0\",\"method\":\"textDocument/publishDiagnostics\",\"params\":{\"diagnostics\":[{\"message\":\"a change of this document couldn't be read, so its text isn't known here; close it and open it anew\",\"range\":{\"end\":{\"character\":0,\"line\":0},\"start\":{\"character\":0,\"line\":0}},\"severity\":1,\"source\":\"wac\"}],\"uri\":\"file:///project/a%20b.wac\"}}",
-    ),
-    (
-        "{\"jsonrpc\":\"2.0\",\"method\":\"textDocument/didOpen\",\"params\":{\"textDocument\":{\"languageId\":\"wac\",\"text\":\"package a:b;\\nimport y: func();\\nlet x = y;\\n\",\"uri\":\"file:///project/a%20b.wac\",\"version\":5}}}",
-        "{\"jsonrpc\":\"2.0\",\"method\":\"textDocument/publishDiagnostics\",\"params\":{\"diagnostics\":[],\"uri\":\"file:///project/a%20b.wac\",\"version\":5}}",
-    ),
-    (
-        "{\"id\":6,\"jsonrpc\":\"2.0\",\"method\":\"textDocument/documentSymbol\",\"params\":{\"textDocument\":{\"uri\":\"file:///project/a%20b.wac\"}}}",
-        "{\"id\":6,\"jsonrpc\":\"2.0\",\"result\":[{\"kind\":13,\"location\":{\"range\":{\"end\":{\"character\":17,\"line\":1},\"start\":{\"character\":0,\"line\":1}},\"uri\":\"file:///project/a%20b.wac\"},\"name\":\"y\"},{\"kind\":13,\"location\":{\"range\":{\"end\":{\"character\":10,\"line\":2},\"start\":{\"character\":0,\"line\":2}},\"uri\":\"file:///project/a%20b.wac\"},\"name\":\"x\"}]}",
-    ),
-    (
-        "{\"jsonrpc\":\"2.0\",\"method\":\"textDocument/didChange\",\"params\":{\"contentChanges\":[{\"text\":3}],\"textDocument\":{\"uri\":\"file:///project/a%20b.wac\",\"version\":6}}}",
-        "{\"jsonrpc\":\"2.0\",\"method\":\"textDocument/publishDiagnostics\",\"params\":{\"diagnostics\":[{\"message\":\"a change of this document couldn't be read, so its text isn't known here; close it and open it anew\",\"range\":{\"end\":{\"character\":0,\"line\":0},\"start\":{\"character\":0,\"line\":0}},\"severity\":1,\"source\":\"wac\"}],\"uri\":\"file:///project/a%20b.wac\"}}",
-    ),
-    (
-        "{\"jsonrpc\":\"2.0\",\"method\":\"textDocument/didClose\",\"params\":{\"textDocument\":{\"uri\":\"file:///project/a%20b.wac\"}}}",
-        "{\"jsonrpc\":\"2.0\",\"method\":\"textDocument/publishDiagnostics\",\"params\":{\"diagnostics\":[],\"uri\":\"file:///project/a%20b.wac\"}}",
-    ),
-    (
-        "{\"id\":7,\"jsonrpc\":\"2.0\",\"method\":\"textDocument/documentSymbol\",\"params\":{\"textDocument\":{\"uri\":\"file:///project/a%20b.wac\"}}}",
-        "{\"error\":{\"code\":-32602,\"message\":\"the document is not open\"},\"id\":7,\"jsonrpc\":\"2.0\"}",
-    ),
-    (
-        "{\"jsonrpc\":\"2.0\",\"method\":\"textDocument/didChange\",\"params\":{\"contentChanges\":[{\"text\":3}],\"textDocument\":{\"uri\":\"file:///project/a%20b.wac\",\"version\":7}}}",
-        "",
+        "{\"jsonrpc\":\"2.0\",\"method\":\"textDocument/didOpen\",\"params\":{\"textDocument\":{\"languageId\":\"wac\",\"text\":\"package a:app;\\nlet x = new t:x { };\\n\",\"uri\":\"file:///p2/app.wac\",\"version\":1}}}",
+        "{\"jsonrpc\":\"2.0\",\"method\":\"textDocument/publishDiagnostics\",\"params\":{\"diagnostics\":[],\"uri\":\"file:///p2/app.wac\",\"version\":1}}\n",
     ),
 ];
 
-/// A client that takes no actions and folds parts of lines.
-static PLAIN: [Row; 5] = [
-    (
-        "{\"id\":1,\"jsonrpc\":\"2.0\",\"method\":\"initialize\",\"params\":{\"capabilities\":{},\"processId\":null}}",
-        "{\"id\":1,\"jsonrpc\":\"2.0\",\"result\":{\"capabilities\":{\"codeActionProvider\":false,\"completionProvider\":{\"triggerCharacters\":[\".\",\"{\",\":\",\"/\",\"\\\"\"]},\"definitionProvider\":true,\"documentFormattingProvider\":true,\"documentHighlightProvider\":true,\"documentRangeFormattingProvider\":true,\"documentSymbolProvider\":true,\"foldingRangeProvider\":true,\"hoverProvider\":true,\"positionEncoding\":\"utf-16\",\"referencesProvider\":true,\"renameProvider\":true,\"selectionRangeProvider\":true,\"semanticTokensProvider\":{\"full\":true,\"legend\":{\"tokenModifiers\":[],\"tokenTypes\":[\"keyword\",\"type\",\"string\",\"comment\",\"operator\",\"variable\",\"namespace\"]}},\"textDocumentSync\":{\"change\":2,\"openClose\":true},\"workspace\":{\"workspaceFolders\":{\"changeNotifications\":true,\"supported\":true}},\"workspaceSymbolProvider\":true},\"serverInfo\":{\"name\":\"wacx\",\"version\":\"1.2.3\"}}}",
-    ),
-    (
-        "{\"jsonrpc\":\"2.0\",\"method\":\"textDocument/didOpen\",\"params\":{\"textDocument\":{\"languageId\":\"wac\",\"text\":\"package a:b;\\nlte x = y;\\n\",\"uri\":\"file:///project/a%20b.wac\",\"version\":1}}}",
-        "{\"jsonrpc\":\"2.0\",\"method\":\"textDocument/publishDiagnostics\",\"params\":{\"diagnostics\":[{\"code\":\"wac::expected-multiple\",\"message\":\"expected either `import` keyword, `let` keyword, `export` keyword, `interface` keyword, `world` keyword, `variant` keyword, `record` keyword, `flags` keyword, `enum` keyword, or `type` keyword, found identifier\\ndid you mean `let`?\",\"range\":{\"end\":{\"character\":3,\"line\":1},\"start\":{\"character\":0,\"line\":1}},\"severity\":1,\"source\":\"wac\"}],\"uri\":\"file:///project/a%20b.wac\",\"version\":1}}",
-    ),
-    (
-        "{\"id\":2,\"jsonrpc\":\"2.0\",\"method\":\"textDocument/codeAction\",\"params\":{\"context\":{\"diagnostics\":[]},\"range\":{\"end\":{\"character\":1,\"line\":1},\"start\":{\"character\":1,\"line\":1}},\"textDocument\":{\"uri\":\"file:///project/a%20b.wac\"}}}",
-        "{\"id\":2,\"jsonrpc\":\"2.0\",\"result\":[]}",
-    ),
-    (
-        "{\"jsonrpc\":\"2.0\",\"method\":\"textDocument/didChange\",\"params\":{\"contentChanges\":[{\"text\":\"package a:b;\\n/* a\\n   b */\\ninterface i { // c\\n  f: func();\\n  record r { x: u8 }\\n}\\n\"}],\"textDocument\":{\"uri\":\"file:///project/a%20b.wac\",\"version\":2}}}",
-        "{\"jsonrpc\":\"2.0\",\"method\":\"textDocument/publishDiagnostics\",\"params\":{\"diagnostics\":[],\"uri\":\"file:///project/a%20b.wac\",\"version\":2}}",
-    ),
-    (
-        "{\"id\":3,\"jsonrpc\":\"2.0\",\"method\":\"textDocument/foldingRange\",\"params\":{\"textDocument\":{\"uri\":\"file:///project/a%20b.wac\"}}}",
-        "{\"id\":3,\"jsonrpc\":\"2.0\",\"result\":[{\"endCharacter\":7,\"endLine\":2,\"kind\":\"comment\",\"startCharacter\":0,\"startLine\":1},{\"endCharacter\":0,\"endLine\":6,\"startCharacter\":13,\"startLine\":3}]}",
-    ),
-];
+/// A client begins with a folder that is empty.
+const BEGINS_WITHOUT: &str =
+    "{\"id\":0,\"jsonrpc\":\"2.0\",\"method\":\"initialize\",\"params\":{\"capabilities\":{},\"workspaceFolders\":[{\"name\":\"e\",\"uri\":\"file:///e\"}]}}";
 
-/// A client that takes edits of documents of a version; and a byte order mark.
-static VERSIONS: [Row; 7] = [
-    (
-        "{\"id\":1,\"jsonrpc\":\"2.0\",\"method\":\"initialize\",\"params\":{\"capabilities\":{\"textDocument\":{\"codeAction\":{\"codeActionLiteralSupport\":{\"codeActionKind\":{\"valueSet\":[]}}}},\"workspace\":{\"workspaceEdit\":{\"documentChanges\":true}}},\"processId\":null}}",
-        "{\"id\":1,\"jsonrpc\":\"2.0\",\"result\":{\"capabilities\":{\"codeActionProvider\":{\"codeActionKinds\":[\"quickfix\"]},\"completionProvider\":{\"triggerCharacters\":[\".\",\"{\",\":\",\"/\",\"\\\"\"]},\"definitionProvider\":true,\"documentFormattingProvider\":true,\"documentHighlightProvider\":true,\"documentRangeFormattingProvider\":true,\"documentSymbolProvider\":true,\"foldingRangeProvider\":true,\"hoverProvider\":true,\"positionEncoding\":\"utf-16\",\"referencesProvider\":true,\"renameProvider\":true,\"selectionRangeProvider\":true,\"semanticTokensProvider\":{\"full\":true,\"legend\":{\"tokenModifiers\":[],\"tokenTypes\":[\"keyword\",\"type\",\"string\",\"comment\",\"operator\",\"variable\",\"namespace\"]}},\"textDocumentSync\":{\"change\":2,\"openClose\":true},\"workspace\":{\"workspaceFolders\":{\"changeNotifications\":true,\"supported\":true}},\"workspaceSymbolProvider\":true},\"serverInfo\":{\"name\":\"wacx\",\"version\":\"1.2.3\"}}}",
-    ),
-    (
-        "{\"jsonrpc\":\"2.0\",\"method\":\"textDocument/didOpen\",\"params\":{\"textDocument\":{\"languageId\":\"wac\",\"text\":\"package a:b;\\nlte x = y;\\n\",\"uri\":\"file:///project/a%20b.wac\",\"version\":1}}}",
-        "{\"jsonrpc\":\"2.0\",\"method\":\"textDocument/publishDiagnostics\",\"params\":{\"diagnostics\":[{\"code\":\"wac::expected-multiple\",\"message\":\"expected either `import` keyword, `let` keyword, `export` keyword, `interface` keyword, `world` keyword, `variant` keyword, `record` keyword, `flags` keyword, `enum` keyword, or `type` keyword, found identifier\\ndid you mean `let`?\",\"range\":{\"end\":{\"character\":3,\"line\":1},\"start\":{\"character\":0,\"line\":1}},\"severity\":1,\"source\":\"wac\"}],\"uri\":\"file:///project/a%20b.wac\",\"version\":1}}",
-    ),
-    (
-        "{\"id\":2,\"jsonrpc\":\"2.0\",\"method\":\"textDocument/codeAction\",\"params\":{\"context\":{\"diagnostics\":[]},\"range\":{\"end\":{\"character\":1,\"line\":1},\"start\":{\"character\":1,\"line\":1}},\"textDocument\":{\"uri\":\"file:///project/a%20b.wac\"}}}",
-        "{\"id\":2,\"jsonrpc\":\"2.0\",\"result\":[{\"diagnostics\":[{\"code\":\"wac::expected-multiple\",\"message\":\"expected either `import` keyword, `let` keyword, `export` keyword, `interface` keyword, `world` keyword, `variant` keyword, `record` keyword, `flags` keyword, `enum` keyword, or `type` keyword, found identifier\\ndid you mean `let`?\",\"range\":{\"end\":{\"character\":3,\"line\":1},\"start\":{\"character\":0,\"line\":1}},\"severity\":1,\"source\":\"wac\"}],\"edit\":{\"documentChanges\":[{\"edits\":[{\"newText\":\"let\",\"range\":{\"end\":{\"character\":3,\"line\":1},\"start\":{\"character\":0,\"line\":1}}}],\"textDocument\":{\"uri\":\"file:///project/a%20b.wac\",\"version\":1}}]},\"kind\":\"quickfix\",\"title\":\"did you mean `let`?\"}]}",
-    ),
-    (
-        "{\"jsonrpc\":\"2.0\",\"method\":\"textDocument/didChange\",\"params\":{\"contentChanges\":[{\"text\":\"package a:b;\\nimport y: func();\\nlet x = y;\\n\"}],\"textDocument\":{\"uri\":\"file:///project/a%20b.wac\",\"version\":7}}}",
-        "{\"jsonrpc\":\"2.0\",\"method\":\"textDocument/publishDiagnostics\",\"params\":{\"diagnostics\":[],\"uri\":\"file:///project/a%20b.wac\",\"version\":7}}",
-    ),
-    (
-        "{\"id\":3,\"jsonrpc\":\"2.0\",\"method\":\"textDocument/rename\",\"params\":{\"newName\":\"z\",\"position\":{\"character\":8,\"line\":2},\"textDocument\":{\"uri\":\"file:///project/a%20b.wac\"}}}",
-        "{\"id\":3,\"jsonrpc\":\"2.0\",\"result\":{\"documentChanges\":[{\"edits\":[{\"newText\":\"z as y\",\"range\":{\"end\":{\"character\":8,\"line\":1},\"start\":{\"character\":7,\"line\":1}}},{\"newText\":\"z\",\"range\":{\"end\":{\"character\":9,\"line\":2},\"start\":{\"character\":8,\"line\":2}}}],\"textDocument\":{\"uri\":\"file:///project/a%20b.wac\",\"version\":7}}]}}",
-    ),
-    (
-        "{\"jsonrpc\":\"2.0\",\"method\":\"textDocument/didChange\",\"params\":{\"contentChanges\":[{\"text\":\"\u{feff}package a:b;\\n\"}],\"textDocument\":{\"uri\":\"file:///project/a%20b.wac\",\"version\":8}}}",
-        "{\"jsonrpc\":\"2.0\",\"method\":\"textDocument/publishDiagnostics\",\"params\":{\"diagnostics\":[{\"code\":\"wac::byte-order-mark\",\"message\":\"the text begins with a byte order mark\\nsave the file as UTF-8 without a byte order mark\",\"range\":{\"end\":{\"character\":1,\"line\":0},\"start\":{\"character\":0,\"line\":0}},\"severity\":1,\"source\":\"wac\"}],\"uri\":\"file:///project/a%20b.wac\",\"version\":8}}",
-    ),
-    (
-        "{\"id\":4,\"jsonrpc\":\"2.0\",\"method\":\"textDocument/codeAction\",\"params\":{\"context\":{\"diagnostics\":[]},\"range\":{\"end\":{\"character\":0,\"line\":0},\"start\":{\"character\":0,\"line\":0}},\"textDocument\":{\"uri\":\"file:///project/a%20b.wac\"}}}",
-        "{\"id\":4,\"jsonrpc\":\"2.0\",\"result\":[{\"diagnostics\":[{\"code\":\"wac::byte-order-mark\",\"message\":\"the text begins with a byte order mark\\nsave the file as UTF-8 without a byte order mark\",\"range\":{\"end\":{\"character\":1,\"line\":0},\"start\":{\"character\":0,\"line\":0}},\"severity\":1,\"source\":\"wac\"}],\"edit\":{\"documentChanges\":[{\"edits\":[{\"newText\":\"\",\"range\":{\"end\":{\"character\":1,\"line\":0},\"start\":{\"character\":0,\"line\":0}}}],\"textDocument\":{\"uri\":\"file:///project/a%20b.wac\",\"version\":8}}]},\"kind\":\"quickfix\",\"title\":\"remove the byte order mark\"}]}",
-    ),
-];
+/// A composition in a folder without packages.
+static ALONE: [Row; 1] = [(
+    "{\"jsonrpc\":\"2.0\",\"method\":\"textDocument/didOpen\",\"params\":{\"textDocument\":{\"languageId\":\"wac\",\"text\":\"package a:app;\\nlet x = new a:b { };\\n\",\"uri\":\"file:///e/app.wac\",\"version\":1}}}",
+    "{\"jsonrpc\":\"2.0\",\"method\":\"textDocument/publishDiagnostics\",\"params\":{\"diagnostics\":[],\"uri\":\"file:///e/app.wac\",\"version\":1}}\n",
+)];
 
-/// The server is ended before it was begun.
-static ENDED: [Row; 1] = [("{\"jsonrpc\":\"2.0\",\"method\":\"exit\"}", "status 1")];
+static PROJECT_FOLDERS: [&str; 1] = ["/my project"];
 
-/// What a server does after a message, in words.
-pub(crate) fn told(alloc: Global, server: &mut Server, body: &str) -> Result<String, ChangeError> {
-    let outcome = step(alloc, server, body.as_bytes())?;
-    if let Some(status) = outcome.status {
-        return Ok(format!(in alloc; "status {status}")?);
-    }
-    let mut told = String::new(alloc);
-    for message in outcome.messages.as_slice() {
-        if !told.is_empty() {
-            told.push('\n')?;
-        }
-        told.push_str(message.body())?;
-    }
-    Ok(told)
+static PACKAGE_FOLDERS: [&str; 5] = ["/p", "/p/deps", "/p/deps/c", "/p/deps/k", "/p/target"];
+
+static EMPTY_FOLDERS: [&str; 1] = ["/e"];
+
+/// All sessions.
+fn stories() -> [Story; 5] {
+    [
+        in_project(BEGINS, ROWS.as_slice()),
+        in_project(BEGINS_ALONE, FOLDERS.as_slice()),
+        in_project(BEGINS, LOST.as_slice()),
+        Story {
+            folders: PACKAGE_FOLDERS.as_slice(),
+            files: PACKAGES.as_slice(),
+            begins: BEGINS_WITH_PACKAGES,
+            rows: OF_PACKAGES.as_slice(),
+        },
+        Story {
+            folders: EMPTY_FOLDERS.as_slice(),
+            files: &[],
+            begins: BEGINS_WITHOUT,
+            rows: ALONE.as_slice(),
+        },
+    ]
 }
 
-/// Asserts that a server tells what each row says.
-pub(crate) fn is_session(rt: &impl Abort, alloc: Global, rows: &[Row]) -> Result<(), Fail> {
-    let mut server = Server::new(alloc, "1.2.3");
-    for (body, expected) in rows {
-        let found = told(alloc, &mut server, body)?;
-        assert!(rt; found.as_str() == *expected, "{body}\n{found}");
+/// A session with the documents of `a:b` and `a:c`.
+fn in_project(begins: &'static str, rows: &'static [Row]) -> Story {
+    Story {
+        folders: PROJECT_FOLDERS.as_slice(),
+        files: PROJECT.as_slice(),
+        begins,
+        rows,
+    }
+}
+
+/// Folders, and files in them, each with its text.
+pub(crate) fn files_of(
+    alloc: Global,
+    folders: &[&str],
+    files: &[(&str, &str)],
+) -> Result<MemoryFiles, AllocError> {
+    let mut all = MemoryFiles::new(alloc);
+    for folder in folders {
+        all.folder(alloc, *folder)?;
+    }
+    for (path, text) in files {
+        all.file(alloc, *path, text.as_bytes())?;
+    }
+    Ok(all)
+}
+
+/// Adds messages, a line each.
+fn push_sent(lines: &mut String, messages: &[Sent]) -> Result<(), AllocError> {
+    for message in messages {
+        lines.push_str(message.body())?;
+        lines.push('\n')?;
     }
     Ok(())
 }
 
+/// Adds what a session sends after a message. Returns whether folders are to be read then.
+fn push_answer(
+    lines: &mut String,
+    alloc: Global,
+    session: &mut Session,
+    body: &str,
+) -> Result<bool, ChangeError> {
+    match session.step(alloc, body.as_bytes()) {
+        Ok(stepped) => {
+            push_sent(lines, stepped.outcome.messages.as_slice())?;
+            Ok(stepped.reads_folders)
+        }
+        Err(error) => Err(error),
+    }
+}
+
+/// Reads the folders of a session, and adds what it sends then.
+fn push_read(
+    lines: &mut String,
+    alloc: Global,
+    session: &mut Session,
+    files: &mut MemoryFiles,
+) -> Result<(), AllocError> {
+    let contents = read_folders(alloc, files, session.folders())?;
+    match session.take(alloc, contents) {
+        Ok(messages) => push_sent(lines, messages.as_slice()),
+        Err(error) => Err(error),
+    }
+}
+
+/// What is sent after a message, a line each. Folders are read where the session says so.
+fn sent_after(
+    alloc: Global,
+    session: &mut Session,
+    files: &mut MemoryFiles,
+    body: &str,
+) -> Result<String, ChangeError> {
+    let mut lines = String::new(alloc);
+    if push_answer(&mut lines, alloc, session, body)? {
+        push_read(&mut lines, alloc, session, files)?;
+    }
+    Ok(lines)
+}
+
+/// The first message of rows after which something else is sent, with that. Nothing where there is none.
+fn difference_in(
+    alloc: Global,
+    session: &mut Session,
+    files: &mut MemoryFiles,
+    rows: &[Row],
+) -> Result<String, ChangeError> {
+    for (body, wanted) in rows {
+        let found = sent_after(alloc, session, files, body)?;
+        if found.as_str() != *wanted {
+            return Ok(format!(in alloc; "{body}\n{found}")?);
+        }
+    }
+    Ok(String::new(alloc))
+}
+
+/// The same of a session from its beginning.
+fn difference(alloc: Global, story: &Story) -> Result<String, ChangeError> {
+    let mut files = files_of(alloc, story.folders, story.files)?;
+    let mut session = Session::new(alloc, "1.2.3");
+    let _ = sent_after(alloc, &mut session, &mut files, story.begins)?;
+    difference_in(alloc, &mut session, &mut files, story.rows)
+}
+
 #[test]
-fn servers_answer_as_rows_say(rt: HostRuntime) -> Result<(), Fail> {
-    for rows in [
-        BEGINNING.as_slice(),
-        DOCUMENT.as_slice(),
-        BYTES.as_slice(),
-        LAYOUT.as_slice(),
-        ENDED.as_slice(),
-        LOST.as_slice(),
-        PLAIN.as_slice(),
-        VERSIONS.as_slice(),
+fn sessions_follow_folders_and_their_packages(rt: HostRuntime) -> Result<(), Fail> {
+    for story in stories() {
+        let found = difference(rt.alloc(), &story)?;
+        assert!(rt; found.is_empty(), "{found}");
+    }
+    Ok(())
+}
+
+/// Adds a message to a stream.
+fn push_framed(stream: &mut String, alloc: Global, body: &str) -> Result<(), AllocError> {
+    let len = body.len();
+    stream.push_str(format!(in alloc; "Content-Length: {len}\r\n\r\n{body}")?.as_str())
+}
+
+/// A client begins and opens a document, in one stream.
+fn beginning(alloc: Global) -> Result<String, AllocError> {
+    let mut stream = String::new(alloc);
+    push_framed(&mut stream, alloc, BEGINS)?;
+    push_framed(&mut stream, alloc, ROWS[1].0)?;
+    Ok(stream)
+}
+
+/// How a server ends.
+fn ending(alloc: Global, mut input: Pieces<'_>, output: &mut Narrow) -> Result<String, AllocError> {
+    let mut files = files_of(alloc, PROJECT_FOLDERS.as_slice(), PROJECT.as_slice())?;
+    match serve(alloc, &mut input, output, &mut files, "1.2.3") {
+        Ok(status) => format!(in alloc; "status {status}"),
+        Err(ServeError::Memory(error)) => Err(error),
+        Err(error) => error.to_string(alloc),
+    }
+}
+
+#[test]
+fn a_stream_of_messages_is_served(rt: HostRuntime) -> Result<(), Fail> {
+    let alloc = rt.alloc();
+    let mut stream = beginning(alloc)?;
+    push_framed(&mut stream, alloc, "{\"id\":9,\"method\":\"shutdown\"}")?;
+    push_framed(&mut stream, alloc, "{\"method\":\"exit\"}")?;
+    let mut output = Narrow::new(alloc, usize::MAX);
+    let found = ending(alloc, Pieces::new(stream.as_bytes(), 1), &mut output)?;
+    // The document that it opens has what it needs in the folder.
+    let wanted = "\"diagnostics\":[],\"uri\":\"file:///my%20project/app.wac\"";
+    let written = str::from_utf8(output.bytes()).unwrap_or("");
+    assert!(rt;
+        found.as_str() == "status 0" && written.contains(wanted),
+        "{found} {written}"
+    );
+    Ok(())
+}
+
+#[test]
+fn a_stream_that_breaks_off_is_told(rt: HostRuntime) -> Result<(), Fail> {
+    let alloc = rt.alloc();
+    let stream = beginning(alloc)?;
+    for (fails, room, wanted) in [
+        (false, usize::MAX, "the input ended"),
+        (true, usize::MAX, "the input failed"),
+        (false, 99, "the output failed"),
     ] {
-        is_session(&rt, rt.alloc(), rows)?;
+        let input = Pieces::new(stream.as_bytes(), 7).failing(fails);
+        let mut output = Narrow::new(alloc, room);
+        let found = ending(alloc, input, &mut output)?;
+        assert!(rt; found.as_str() == wanted, "{found}");
     }
     Ok(())
 }

@@ -4,10 +4,16 @@
 #![tactic(auto)]
 
 #[cfg(test)]
+mod asked;
+#[cfg(test)]
 mod completion;
 #[cfg(test)]
 mod lsp_names;
 #[cfg(test)]
+mod marked;
+#[cfg(test)]
 mod names;
 #[cfg(test)]
 mod outline;
+#[cfg(test)]
+mod spans;

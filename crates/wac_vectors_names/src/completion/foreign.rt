@@ -1,8 +1,7 @@
 //! Which names of foreign packages an offset asks for.
 
+use crate::marked::Row;
 use std::alloc::{AllocError, Global};
-use std::process::Abort;
-use std::test::Fail;
 use wac_completion::{Asked, Foreign, Origin, foreign_at};
 
 /// A line with a word and the texts behind it.
@@ -13,19 +12,6 @@ fn joined(alloc: Global, word: &str, texts: &[&str]) -> Result<String, AllocErro
         line.push_str(text)?;
     }
     Ok(line)
-}
-
-/// What the mark of a text asks for, as a line: where the quote is, if there is one, what, of which package, and what is
-/// given or leads there.
-fn line_of(alloc: Global, marked: &str) -> Result<String, AllocError> {
-    let (before, after) = marked.split_once('|').unwrap_or((marked, ""));
-    let mut text = String::from_str(alloc, before)?;
-    text.push_str(after)?;
-    match foreign_at(alloc, text.as_str(), before.len()) {
-        Ok(Some(asked)) => asked_line(alloc, &asked),
-        Ok(None) => String::from_str(alloc, ""),
-        Err(error) => Err(error),
-    }
 }
 
 /// What is asked for and where the quote is, as a line.
@@ -58,8 +44,18 @@ fn foreign_line(alloc: Global, foreign: &Foreign<'_>) -> Result<String, AllocErr
     }
 }
 
+/// What an offset asks for, as a line: where the quote is, if there is one, what, of which package, and what is given
+/// or leads there.
+pub(crate) fn line_at(alloc: Global, text: &str, offset: usize) -> Result<String, AllocError> {
+    match foreign_at(alloc, text, offset) {
+        Ok(Some(asked)) => asked_line(alloc, &asked),
+        Ok(None) => Ok(String::new(alloc)),
+        Err(error) => Err(error),
+    }
+}
+
 /// Texts with a mark, and what it asks for.
-static ROWS: [(&str, &str); 42] = [
+pub(crate) static FOREIGN: [Row; 42] = [
     ("package a:b; let x = new c:d { |", "argument c:d"),
     (
         "package a:b; let x = new c:d@1.2.0 {|}",
@@ -157,21 +153,3 @@ static ROWS: [(&str, &str); 42] = [
     ("package a:b; let x = new c:d { log: ) , |", ""),
     ("package a:b; export |", ""),
 ];
-
-#[test]
-fn names_of_packages_are_asked_for(rt: HostRuntime) -> Result<(), Fail> {
-    for (marked, expected) in &ROWS {
-        let found = line_of(rt.alloc(), marked)?;
-        assert!(rt; found.as_str() == *expected, "{marked}: {found}");
-    }
-    Ok(())
-}
-
-#[test]
-fn offsets_within_characters_ask_for_nothing(rt: HostRuntime) -> Result<(), Fail> {
-    let text = "package a:b; let x = new c:d { /* \u{e9} */";
-    for offset in [35usize, 100] {
-        assert!(rt; foreign_at(rt.alloc(), text, offset)?.is_none());
-    }
-    Ok(())
-}

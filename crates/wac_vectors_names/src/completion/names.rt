@@ -1,52 +1,48 @@
 //! Names at an offset, and completions. The names are by the rules of docs/RESOLVING.md.
 
-use crate::completion::marked::Row;
+use crate::marked::Row;
 use std::alloc::{AllocError, Global};
-use std::process::Abort;
-use std::test::Fail;
 use wac_completion::{completions_at, names_at};
+use wac_lexer::SourceSpan;
 
 /// Adds a text behind a blank.
 fn add(line: &mut String, text: &str) -> Result<(), AllocError> {
     if !line.is_empty() {
         line.push(' ')?;
     }
-    line.push_str(text)?;
-    Ok(())
+    line.push_str(text)
 }
 
-/// The names at the mark of a text, as they are spelled where they are bound.
-fn names_of(alloc: Global, marked: &str) -> Result<String, AllocError> {
-    let (text, offset) = unmarked(alloc, marked)?;
+/// The text of a span.
+fn slice(text: &str, span: SourceSpan) -> &str {
+    let end = span.offset().saturating_add(span.len());
+    text.get(span.offset()..end).unwrap_or("?")
+}
+
+/// The names that can stand at an offset, as they are spelled where they are bound.
+pub(crate) fn names_line(alloc: Global, text: &str, offset: usize) -> Result<String, AllocError> {
     let mut line = String::new(alloc);
-    for name in &names_at(alloc, text.as_str(), offset)? {
-        let start = name.span.offset();
-        let end = start.saturating_add(name.span.len());
-        add(&mut line, text.as_str().get(start..end).unwrap_or("?"))?;
+    for name in &names_at(alloc, text, offset)? {
+        add(&mut line, slice(text, name.span))?;
     }
     Ok(line)
 }
 
-/// The completions at the mark of a text.
-fn completions_of(alloc: Global, marked: &str) -> Result<String, AllocError> {
-    let (text, offset) = unmarked(alloc, marked)?;
+/// The completions at an offset.
+pub(crate) fn completions_line(
+    alloc: Global,
+    text: &str,
+    offset: usize,
+) -> Result<String, AllocError> {
     let mut line = String::new(alloc);
-    for completion in &completions_at(alloc, text.as_str(), offset)?.all {
+    for completion in &completions_at(alloc, text, offset)?.all {
         add(&mut line, completion.label.as_str())?;
     }
     Ok(line)
 }
 
-/// A text without its mark, and where the mark was.
-fn unmarked(alloc: Global, marked: &str) -> Result<(String, usize), AllocError> {
-    let (before, after) = marked.split_once('|').unwrap_or((marked, ""));
-    let mut text = String::from_str(alloc, before)?;
-    text.push_str(after)?;
-    Ok((text, before.len()))
-}
-
 /// Texts with a mark, and the names that can stand there.
-static NAMES: [Row; 25] = [
+pub(crate) static NAMES: [Row; 25] = [
     ("package a:b; import x: func(); let y = |", "x"),
     ("package a:b; import x: func(); let y = x; export |", "x y"),
     ("package a:b; import x: func(); let y = x; export (|", "x y"),
@@ -99,7 +95,7 @@ static NAMES: [Row; 25] = [
 ];
 
 /// Texts with a mark, and the completions there.
-static COMPLETIONS: [Row; 12] = [
+pub(crate) static COMPLETIONS: [Row; 12] = [
     ("package a:b; le|", "let"),
     ("package a:b; import log: func(); export l|", "log"),
     (
@@ -116,21 +112,3 @@ static COMPLETIONS: [Row; 12] = [
     ("package a:b; let let le|", ""),
     ("package a:b; let x = 5; le|", "let"),
 ];
-
-#[test]
-fn names_are_those_in_scope(rt: HostRuntime) -> Result<(), Fail> {
-    for (marked, expected) in &NAMES {
-        let found = names_of(rt.alloc(), marked)?;
-        assert!(rt; found.as_str() == *expected, "{marked}: {found}");
-    }
-    Ok(())
-}
-
-#[test]
-fn completions_begin_with_the_word(rt: HostRuntime) -> Result<(), Fail> {
-    for (marked, expected) in &COMPLETIONS {
-        let found = completions_of(rt.alloc(), marked)?;
-        assert!(rt; found.as_str() == *expected, "{marked}: {found}");
-    }
-    Ok(())
-}

@@ -1,8 +1,7 @@
 //! What is written of the name of a package at an offset.
 
+use crate::marked::Row;
 use std::alloc::{AllocError, Global};
-use std::process::Abort;
-use std::test::Fail;
 use wac_completion::{PackageWord, package_at};
 
 /// What can stand in the place of a word.
@@ -15,25 +14,22 @@ fn sort_of(word: &PackageWord<'_>) -> &'static str {
     }
 }
 
-/// What is written at the mark of a text, as a line: where it begins, its text, and what can stand there.
-fn line_of(alloc: Global, marked: &str) -> Result<String, AllocError> {
-    let (before, after) = marked.split_once('|').unwrap_or((marked, ""));
-    let mut text = String::from_str(alloc, before)?;
-    text.push_str(after)?;
-    match package_at(alloc, text.as_str(), before.len()) {
+/// What is written at an offset, as a line: where it begins, its text, and what can stand there.
+pub(crate) fn line_at(alloc: Global, text: &str, offset: usize) -> Result<String, AllocError> {
+    match package_at(alloc, text, offset) {
         Ok(Some(word)) => {
             let start = word.start;
             let written = word.text;
             let sort = sort_of(&word);
             format!(in alloc; "{start} `{written}` {sort}")
         }
-        Ok(None) => String::from_str(alloc, ""),
+        Ok(None) => Ok(String::new(alloc)),
         Err(error) => Err(error),
     }
 }
 
 /// Texts with a mark, and what is written there.
-static ROWS: [(&str, &str); 18] = [
+pub(crate) static PACKAGES: [Row; 18] = [
     ("package a:b; let x = new |", "25 `` name"),
     ("package a:b; let x = new c:d@1.|", "25 `c:d@1.` name"),
     ("package a:b; let x = new c|:d {};", "25 `c` name"),
@@ -56,15 +52,3 @@ static ROWS: [(&str, &str); 18] = [
     ("package a:b; let x = new c:d |", ""),
     ("package a:b; // new |", ""),
 ];
-
-#[test]
-fn names_of_packages_can_stand_at_offsets(rt: HostRuntime) -> Result<(), Fail> {
-    for (marked, expected) in &ROWS {
-        let found = line_of(rt.alloc(), marked)?;
-        assert!(rt; found.as_str() == *expected, "{marked}: {found}");
-    }
-    let text = "package a:b; /* \u{e9} */ let x = new ";
-    assert!(rt; package_at(rt.alloc(), text, 17)?.is_none());
-    assert!(rt; package_at(rt.alloc(), text, 100)?.is_none());
-    Ok(())
-}

@@ -1,11 +1,11 @@
 //! Statements and expressions.
 
-use crate::completion::marked::{EXPRESSION, Row, STATEMENT, TYPE, wrong_rows};
-use std::process::Abort;
-use std::test::Fail;
+use crate::completion::kinds::{EXPRESSION, STATEMENT, TYPE};
+use crate::marked::Row;
 
-/// The directive.
-static DIRECTIVE: [Row; 8] = [
+/// Texts with a mark, and the kinds that can stand there.
+pub(crate) static STATEMENTS: [Row; 64] = [
+    // The directive.
     ("|", "package"),
     ("// c\n|", "package"),
     ("package |", "name"),
@@ -14,10 +14,7 @@ static DIRECTIVE: [Row; 8] = [
     ("package a:b targets c:d/e |", ";"),
     ("package a:b; |", STATEMENT),
     ("package a:b;\nexport x;\n|", STATEMENT),
-];
-
-/// Imports.
-static IMPORTS: [Row; 12] = [
+    // Imports.
     ("package a:b; import |", "id"),
     ("package a:b; import x |", "as :"),
     ("package a:b; import x as |", "id str"),
@@ -33,10 +30,7 @@ static IMPORTS: [Row; 12] = [
     ),
     ("package a:b; import x: interface {} |", ";"),
     ("package a:b; import x: y; |", STATEMENT),
-];
-
-/// Functions.
-static FUNCTIONS: [Row; 14] = [
+    // Functions.
     ("package a:b; import x: async |", "func"),
     ("package a:b; import x: func |", "("),
     ("package a:b; import x: func( |", "id )"),
@@ -54,10 +48,7 @@ static FUNCTIONS: [Row; 14] = [
     ("package a:b; import x: func() -> (a: u8, |", "id )"),
     ("package a:b; import x: func() -> (a: u8) |", ";"),
     ("package a:b; import x: func() -> u8 |", ";"),
-];
-
-/// `let` and expressions.
-static EXPRESSIONS: [Row; 12] = [
+    // `let` and expressions.
     ("package a:b; let |", "id"),
     ("package a:b; let x |", "="),
     ("package a:b; let x = |", EXPRESSION),
@@ -70,10 +61,7 @@ static EXPRESSIONS: [Row; 12] = [
     ("package a:b; let x = y[ |", "str"),
     ("package a:b; let x = y[\"z\" |", "]"),
     ("package a:b; let x = y[\"z\"] |", "; [ ."),
-];
-
-/// Instantiations.
-static ARGUMENTS: [Row; 12] = [
+    // Instantiations.
     ("package a:b; let x = new |", "name"),
     ("package a:b; let x = new c:d |", "{"),
     ("package a:b; let x = new c:d { |", "id str } ..."),
@@ -86,10 +74,7 @@ static ARGUMENTS: [Row; 12] = [
     ("package a:b; let x = new c:d { ... |", "id } ,"),
     ("package a:b; let x = new c:d { ...a |", "} ,"),
     ("package a:b; let x = new c:d {} |", "; [ ."),
-];
-
-/// Exports.
-static EXPORTS: [Row; 6] = [
+    // Exports.
     ("package a:b; export |", EXPRESSION),
     ("package a:b; export x |", "as ; [ . ..."),
     ("package a:b; export x as |", "id str"),
@@ -97,19 +82,3 @@ static EXPORTS: [Row; 6] = [
     ("package a:b; export x as \"y\" |", ";"),
     ("package a:b; export x... |", ";"),
 ];
-
-#[test]
-fn statements_have_these_kinds(rt: HostRuntime) -> Result<(), Fail> {
-    for rows in [
-        DIRECTIVE.as_slice(),
-        IMPORTS.as_slice(),
-        FUNCTIONS.as_slice(),
-        EXPRESSIONS.as_slice(),
-        ARGUMENTS.as_slice(),
-        EXPORTS.as_slice(),
-    ] {
-        let wrong = wrong_rows(rt.alloc(), rows)?;
-        assert!(rt; wrong.is_empty(), "{wrong}");
-    }
-    Ok(())
-}

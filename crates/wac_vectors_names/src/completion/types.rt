@@ -1,11 +1,11 @@
 //! Types and declarations.
 
-use crate::completion::marked::{Row, STATEMENT, TYPE, wrong_rows};
-use std::process::Abort;
-use std::test::Fail;
+use crate::completion::kinds::{STATEMENT, TYPE};
+use crate::marked::Row;
 
-/// Aliases, and types without others in them.
-static ALIASES: [Row; 7] = [
+/// Texts with a mark, and the kinds that can stand there.
+pub(crate) static TYPES: [Row; 52] = [
+    // Aliases, and types without others in them.
     ("package a:b; type |", "id"),
     ("package a:b; type t |", "="),
     (
@@ -16,10 +16,7 @@ static ALIASES: [Row; 7] = [
     ("package a:b; type t = u |", ";"),
     ("package a:b; type t = error-context |", ";"),
     ("package a:b; type t = func() |", "; ->"),
-];
-
-/// Types with others in them.
-static TYPES: [Row; 15] = [
+    // Types with others in them.
     ("package a:b; type t = tuple |", "<"),
     ("package a:b; type t = tuple< |", TYPE),
     ("package a:b; type t = tuple<u8 |", "> ,"),
@@ -38,10 +35,7 @@ static TYPES: [Row; 15] = [
     ("package a:b; type t = stream |", "; <"),
     ("package a:b; type t = stream< |", TYPE),
     ("package a:b; type t = future<u8 |", ">"),
-];
-
-/// Results.
-static RESULTS: [Row; 6] = [
+    // Results.
     ("package a:b; type t = result |", "; <"),
     (
         "package a:b; type t = result< |",
@@ -54,10 +48,7 @@ static RESULTS: [Row; 6] = [
         "id tuple list option result borrow u8 s8 u16 s16 u32 s32 u64 s64 f32 f64 char bool string stream future error-context _",
     ),
     ("package a:b; type t = result<_, u8 |", ">"),
-];
-
-/// Variants. An empty body can't be closed.
-static VARIANTS: [Row; 9] = [
+    // Variants. An empty body can't be closed.
     ("package a:b; variant |", "id"),
     ("package a:b; variant v |", "{"),
     ("package a:b; variant v { |", "id"),
@@ -67,10 +58,7 @@ static VARIANTS: [Row; 9] = [
     ("package a:b; variant v { a(u8) |", "} ,"),
     ("package a:b; variant v { a, |", "id }"),
     ("package a:b; variant v { a } |", STATEMENT),
-];
-
-/// Records, flags and enums.
-static RECORDS: [Row; 15] = [
+    // Records, flags and enums.
     ("package a:b; record |", "id"),
     ("package a:b; record r { |", "id"),
     ("package a:b; record r { a |", ":"),
@@ -87,18 +75,3 @@ static RECORDS: [Row; 15] = [
     ("package a:b; enum e { a, |", "id }"),
     ("package a:b; enum e { a } |", STATEMENT),
 ];
-
-#[test]
-fn types_have_these_kinds(rt: HostRuntime) -> Result<(), Fail> {
-    for rows in [
-        ALIASES.as_slice(),
-        TYPES.as_slice(),
-        RESULTS.as_slice(),
-        VARIANTS.as_slice(),
-        RECORDS.as_slice(),
-    ] {
-        let wrong = wrong_rows(rt.alloc(), rows)?;
-        assert!(rt; wrong.is_empty(), "{wrong}");
-    }
-    Ok(())
-}

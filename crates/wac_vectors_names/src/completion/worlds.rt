@@ -1,11 +1,11 @@
 //! Interfaces and worlds.
 
-use crate::completion::marked::{Row, STATEMENT, wrong_rows};
-use std::process::Abort;
-use std::test::Fail;
+use crate::completion::kinds::STATEMENT;
+use crate::marked::Row;
 
-/// Interfaces.
-static INTERFACES: [Row; 8] = [
+/// Texts with a mark, and the kinds that can stand there.
+pub(crate) static WORLDS: [Row; 50] = [
+    // Interfaces.
     ("package a:b; interface |", "id"),
     ("package a:b; interface i |", "{"),
     (
@@ -20,10 +20,7 @@ static INTERFACES: [Row; 8] = [
         "id type resource variant record flags enum use }",
     ),
     ("package a:b; interface i { } |", STATEMENT),
-];
-
-/// `use`.
-static USES: [Row; 10] = [
+    // `use`.
     ("package a:b; interface i { use |", "id path"),
     ("package a:b; interface i { use a |", "."),
     ("package a:b; interface i { use c:d/e |", "."),
@@ -34,10 +31,7 @@ static USES: [Row; 10] = [
     ("package a:b; interface i { use a.{b as |", "id"),
     ("package a:b; interface i { use a.{b as c |", "} ,"),
     ("package a:b; interface i { use a.{ b } |", ";"),
-];
-
-/// Resources.
-static RESOURCES: [Row; 11] = [
+    // Resources.
     ("package a:b; interface i { resource |", "id"),
     ("package a:b; interface i { resource r |", "; {"),
     (
@@ -70,10 +64,7 @@ static RESOURCES: [Row; 11] = [
         "package a:b; interface i { resource r; |",
         "id type resource variant record flags enum use }",
     ),
-];
-
-/// Worlds.
-static WORLDS: [Row; 11] = [
+    // Worlds.
     ("package a:b; world |", "id"),
     ("package a:b; world w |", "{"),
     (
@@ -94,10 +85,7 @@ static WORLDS: [Row; 11] = [
     ("package a:b; world w { export |", "id path"),
     ("package a:b; world w { export c:d/e |", ";"),
     ("package a:b; world w { } |", STATEMENT),
-];
-
-/// `include`.
-static INCLUDES: [Row; 10] = [
+    // `include`.
     ("package a:b; world w { include |", "id path"),
     ("package a:b; world w { include v |", "with ;"),
     ("package a:b; world w { include c:d/e |", "with ;"),
@@ -109,18 +97,3 @@ static INCLUDES: [Row; 10] = [
     ("package a:b; world w { include v with { a as b, |", "id }"),
     ("package a:b; world w { include v with { a as b } |", ";"),
 ];
-
-#[test]
-fn items_of_bodies_have_these_kinds(rt: HostRuntime) -> Result<(), Fail> {
-    for rows in [
-        INTERFACES.as_slice(),
-        USES.as_slice(),
-        RESOURCES.as_slice(),
-        WORLDS.as_slice(),
-        INCLUDES.as_slice(),
-    ] {
-        let wrong = wrong_rows(rt.alloc(), rows)?;
-        assert!(rt; wrong.is_empty(), "{wrong}");
-    }
-    Ok(())
-}

@@ -1,26 +1,22 @@
 //! Names that can't get another one, and why.
 
-use crate::lsp_names::after::renamed;
-use std::alloc::{AllocError, Global};
-use std::process::Abort;
-use std::test::Fail;
 use wac_lsp_names::RenameError;
 
 /// A text, the new name of what is at the mark, and why it doesn't get it.
-type Row = (&'static str, &'static str, RenameError);
+pub(crate) type RefusedRow = (&'static str, &'static str, RenameError);
 
 /// A document in which a name can be renamed.
-const PLAIN: &str = "package a:b; import ^log: func(); export log;";
+const PLAIN: &str = "package a:b; import |log: func(); export log;";
 
-static ROWS: [Row; 47] = [
+pub(crate) static REFUSED: [RefusedRow; 47] = [
     (
-        "^package a:b; import log: func();",
+        "|package a:b; import log: func();",
         "x",
         RenameError::NoName,
     ),
-    ("package a:b; export ^log;", "x", RenameError::NoName),
+    ("package a:b; export |log;", "x", RenameError::NoName),
     (
-        "package a:b; import log as \"^log\": func();",
+        "package a:b; import log as \"|log\": func();",
         "x",
         RenameError::NoName,
     ),
@@ -39,191 +35,162 @@ static ROWS: [Row; 47] = [
     (PLAIN, "x-Log", RenameError::MixedCase),
     // At root.
     (
-        "package a:b; import ^f: func(); import g: func();",
+        "package a:b; import |f: func(); import g: func();",
         "g",
         RenameError::Taken,
     ),
     (
-        "package a:b; import ^f: func(); let g = new c:d { ... };",
+        "package a:b; import |f: func(); let g = new c:d { ... };",
         "g",
         RenameError::Taken,
     ),
     (
-        "package a:b; import ^f: func(); import %type: func();",
+        "package a:b; import |f: func(); import %type: func();",
         "type",
         RenameError::Taken,
     ),
     (
-        "package a:b; type ^t = u8; import f: func(); export f as g;",
+        "package a:b; type |t = u8; import f: func(); export f as g;",
         "g",
         RenameError::Taken,
     ),
     (
-        "package a:b; type ^t = u8; import f: func(); export f as \"g\";",
+        "package a:b; type |t = u8; import f: func(); export f as \"g\";",
         "g",
         RenameError::Taken,
     ),
     (
-        "package a:b; interface ^t { } import x: interface { g: func(); }; export x.g;",
+        "package a:b; interface |t { } import x: interface { g: func(); }; export x.g;",
         "g",
         RenameError::Taken,
     ),
     (
-        "package a:b; interface ^t { } import x: interface { g: func(); }; export x...;",
+        "package a:b; interface |t { } import x: interface { g: func(); }; export x...;",
         "g",
         RenameError::Taken,
     ),
     // In bodies and types.
     (
-        "package a:b; interface i { f: func(); type ^t = u8; }",
+        "package a:b; interface i { f: func(); type |t = u8; }",
         "f",
         RenameError::Taken,
     ),
     (
-        "package a:b; interface i { type t = u8; } interface j { use i.{t}; ^f: func(); }",
+        "package a:b; interface i { type t = u8; } interface j { use i.{t}; |f: func(); }",
         "t",
         RenameError::Taken,
     ),
     (
-        "package a:b; interface i { type ^t = u8; } interface j { use i.{t}; f: func(); }",
+        "package a:b; interface i { type |t = u8; } interface j { use i.{t}; f: func(); }",
         "f",
         RenameError::Taken,
     ),
     (
-        "package a:b; world v { import ^p: func(); } world w { import q: func(); include v; }",
+        "package a:b; world v { import |p: func(); } world w { import q: func(); include v; }",
         "q",
         RenameError::Taken,
     ),
     (
-        "package a:b; world v { import p: func(); } world w { import ^q: func(); include v; }",
+        "package a:b; world v { import p: func(); } world w { import |q: func(); include v; }",
         "p",
         RenameError::Taken,
     ),
     (
-        "package a:b; world v { import p: func(); } world w { import q: func(); include v with { p as ^r }; }",
+        "package a:b; world v { import p: func(); } world w { import q: func(); include v with { p as |r }; }",
         "q",
         RenameError::Taken,
     ),
     (
-        "package a:b; record r { ^x: u8, y: u8 }",
+        "package a:b; record r { |x: u8, y: u8 }",
         "y",
         RenameError::Taken,
     ),
     (
-        "package a:b; variant v { ^x(u8), y }",
+        "package a:b; variant v { |x(u8), y }",
         "y",
         RenameError::Taken,
     ),
     (
-        "package a:b; interface i { resource r { ^m: func(); n: static func(); } }",
+        "package a:b; interface i { resource r { |m: func(); n: static func(); } }",
         "n",
         RenameError::Taken,
     ),
     (
-        "package a:b; import f: func(^x: u8, y: u8);",
+        "package a:b; import f: func(|x: u8, y: u8);",
         "y",
         RenameError::Taken,
     ),
     (
-        "package a:b; interface i { resource r { m: func(^x: u8); } }",
+        "package a:b; interface i { resource r { m: func(|x: u8); } }",
         "self",
         RenameError::Taken,
     ),
     // A body's own name comes before one of the document.
     (
-        "package a:b; interface ^i { } world w { type t = func(); import a: i; }",
+        "package a:b; interface |i { } world w { type t = func(); import a: i; }",
         "t",
         RenameError::Captured,
     ),
     (
-        "package a:b; interface i { } world w { type ^t = func(); import a: i; }",
+        "package a:b; interface i { } world w { type |t = func(); import a: i; }",
         "i",
         RenameError::Captures,
     ),
     (
-        "package a:b; import ^f: func(); export g;",
+        "package a:b; import |f: func(); export g;",
         "g",
         RenameError::Captures,
     ),
     // Statements that can't be read.
     (
-        "package a:b; import ^log: func(); let = log; export log;",
+        "package a:b; import |log: func(); let = log; export log;",
         "x",
         RenameError::Faulty,
     ),
     (
-        "package a:b; import ^log: func(); let = x; export log;",
+        "package a:b; import |log: func(); let = x; export log;",
         "x",
         RenameError::Faulty,
     ),
     (
-        "package ; import ^log: func(); export log;",
+        "package ; import |log: func(); export log;",
         "x",
         RenameError::Faulty,
     ),
     // Names that others see, and for which there is no other form.
     (
-        "package a:b; import x: c:d/e; import ^y: x;",
+        "package a:b; import x: c:d/e; import |y: x;",
         "z",
         RenameError::ImportName,
     ),
     (
-        "package a:b; import ^l: c:d/log; let i = new e:f { l };",
+        "package a:b; import |l: c:d/log; let i = new e:f { l };",
         "x",
         RenameError::ArgumentName,
     ),
     (
-        "package a:b; import ^log as \"l\": func(); let i = new e:f { log };",
+        "package a:b; import |log as \"l\": func(); let i = new e:f { log };",
         "x",
         RenameError::ArgumentName,
     ),
     (
-        "package a:b; import x: interface { ^f: func(); }; let g = x.f; let i = new c:d { g };",
+        "package a:b; import x: interface { |f: func(); }; let g = x.f; let i = new c:d { g };",
         "h",
         RenameError::ArgumentName,
     ),
     (
-        "package a:b; import x: interface { ^f: func(); }; let i = new c:d { ...x };",
+        "package a:b; import x: interface { |f: func(); }; let i = new c:d { ...x };",
         "g",
         RenameError::Spread,
     ),
     (
-        "package a:b; import x: interface { ^f: func(); }; export x...;",
+        "package a:b; import x: interface { |f: func(); }; export x...;",
         "g",
         RenameError::Spread,
     ),
     (
-        "package a:b targets a:b/w; world w { import ^f: func(); } import f: func();",
+        "package a:b targets a:b/w; world w { import |f: func(); } import f: func();",
         "g",
         RenameError::Target,
     ),
 ];
-
-/// Why the name at a mark doesn't get another one, if it doesn't.
-fn refusal(alloc: Global, source: &str, new: &str) -> Result<Option<RenameError>, AllocError> {
-    match renamed(alloc, source, new)? {
-        Ok(_) => Ok(None),
-        Err(error) => Ok(Some(error)),
-    }
-}
-
-/// What is said of a name that doesn't get another one.
-fn words_of(why: Option<RenameError>) -> &'static str {
-    match why {
-        Some(error) => error.message(),
-        None => "it is renamed",
-    }
-}
-
-#[test]
-fn names_are_refused(rt: HostRuntime) -> Result<(), Fail> {
-    for (source, new, expected) in &ROWS {
-        let why = refusal(rt.alloc(), source, new)?;
-        assert!(rt;
-            why == Some(*expected),
-            "{source}, {new}: {}",
-            words_of(why)
-        );
-    }
-    Ok(())
-}

@@ -1,15 +1,13 @@
 //! Which identifiers are looked up in scopes, and where these bind what they find.
 //!
-//! A mark `$1` is before a name that a scope binds, and so before the item of a `use`; `#1` is before an identifier that
-//! is looked up in a scope, and says what it finds. Members, as the exports of an instance, have no mark, and neither
+//! A mark `$1` is before a name that a scope binds, and so before the item of a `use`; `#1` is before an identifier
+//! that is looked up in a scope, and says what it finds. Members, as the exports of an instance, have no mark, and neither
 //! has what finds nothing.
 
-use crate::names::marked::{Mark, Marked, bound_offset, used_label};
-use crate::names::tested::names_of;
 use std::alloc::{AllocError, Global};
 use std::process::Abort;
 use std::test::Fail;
-use wac_names::Mention;
+use wac_names::{Mention, Names};
 
 static ROWS: [&str; 32] = [
     // Expressions: a name is bound after its own, and arguments are looked up as they come.
@@ -61,41 +59,82 @@ static ROWS: [&str; 32] = [
     "package a:b targets a:c/w; world w { } world v { }",
 ];
 
-/// Whether a mention is of a member, or where a mark says so of a name that is bound where its label is.
+/// A mark of a document.
+#[derive(Clone, Copy)]
+struct Mark {
+    /// Whether a scope binds the name there.
+    is_binding: bool,
+    /// The digit.
+    label: char,
+    /// Where the name begins in the text without marks.
+    offset: usize,
+}
+
+/// Takes the marks out of a document, whose text is added to the one that is given.
+fn take_marks(alloc: Global, source: &str, text: &mut String) -> Result<Vec<Mark>, AllocError> {
+    let mut marks = Vec::new(alloc);
+    let mut sign: Option<bool> = None;
+    for next in source.chars() {
+        match sign {
+            Some(is_binding) => {
+                marks.push(Mark {
+                    is_binding,
+                    label: next,
+                    offset: text.len(),
+                })?;
+                sign = None;
+            }
+            None if next == '$' || next == '#' => sign = Some(next == '$'),
+            None => text.push(next)?,
+        }
+    }
+    Ok(marks)
+}
+
+/// Where a scope binds what the marks say that is looked up at an offset.
+fn marked_at(marks: &[Mark], offset: usize) -> Option<usize> {
+    let looked_up = marks
+        .iter()
+        .find(|mark| !mark.is_binding && mark.offset == offset)?;
+    let bound = marks
+        .iter()
+        .find(|mark| mark.is_binding && mark.label == looked_up.label)?;
+    Some(bound.offset)
+}
+
+/// Whether a mention is of a member, or where the marks say so of a name that is bound where they say.
 fn is_marked(marks: &[Mark], mention: &Mention) -> bool {
     match mention.bound {
-        Some(bound) => match used_label(marks, mention.span.offset()) {
-            Some(label) => bound_offset(marks, label) == Some(bound.offset()),
-            None => false,
-        },
+        Some(bound) => marked_at(marks, mention.span.offset()) == Some(bound.offset()),
         None => true,
     }
 }
 
 /// Whether the mentions that were found in scopes are those with marks.
 fn are_marked(marks: &[Mark], mentions: &[Mention]) -> bool {
-    for mention in mentions {
-        if !is_marked(marks, mention) {
-            return false;
-        }
-    }
     let uses = marks.iter().filter(|mark| !mark.is_binding).count();
     let found = mentions
         .iter()
         .filter(|mention| mention.bound.is_some())
         .count();
-    uses == found
+    uses == found && mentions.iter().all(|mention| is_marked(marks, mention))
+}
+
+/// Whether what is found in a document is what its marks say.
+fn is_right(alloc: Global, row: &str) -> Result<bool, AllocError> {
+    let mut text = String::new(alloc);
+    let marks = take_marks(alloc, row, &mut text)?;
+    match Names::of_text(alloc, text.as_str()) {
+        Ok(Some(names)) => Ok(are_marked(marks.as_slice(), names.mentions.as_slice())),
+        Ok(None) => Ok(false),
+        Err(error) => Err(error),
+    }
 }
 
 /// The first document of which something else is found than its marks say.
 fn first_other(alloc: Global) -> Result<Option<&'static str>, AllocError> {
     for row in &ROWS {
-        let marked = Marked::of(alloc, row)?;
-        let is_right = match names_of(alloc, marked.text.as_str())? {
-            Some(names) => are_marked(&marked.marks, &names.mentions),
-            None => false,
-        };
-        if !is_right {
+        if !is_right(alloc, row)? {
             return Ok(Some(*row));
         }
     }

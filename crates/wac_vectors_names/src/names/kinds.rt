@@ -1,9 +1,9 @@
 //! What binds each name of a document, and in whose declaration it is.
 
-use crate::names::tested::names_of;
+use std::alloc::{AllocError, Global};
 use std::process::Abort;
 use std::test::Fail;
-use wac_names::{Kind, Name};
+use wac_names::{Kind, Name, Names};
 
 const DOCUMENT: &str = "package a:b;
 import i: func(p: u8) -> (r: u8);
@@ -78,32 +78,27 @@ fn is_row(names: &[Name], name: &Name, row: &Row) -> bool {
 fn first_missing(names: &[Name]) -> Option<&'static str> {
     for (at, row) in ROWS.iter().enumerate() {
         match names.get(at) {
-            Some(name) => {
-                if !is_row(names, name, row) {
-                    return Some(row.0);
-                }
-            }
-            None => return Some(row.0),
+            Some(name) if is_row(names, name, row) => {}
+            _ => return Some(row.0),
         }
     }
     None
 }
 
+/// What is wrong with the names of the document.
+fn fault(alloc: Global) -> Result<Option<&'static str>, AllocError> {
+    match Names::of_text(alloc, DOCUMENT) {
+        Ok(Some(names)) if names.symbols().len() != ROWS.len() => Ok(Some("the number of names")),
+        Ok(Some(names)) => Ok(first_missing(names.symbols())),
+        Ok(None) => Ok(Some("no names")),
+        Err(error) => Err(error),
+    }
+}
+
 #[test]
 fn kinds_and_containers(rt: HostRuntime) -> Result<(), Fail> {
-    let Some(names) = names_of(rt.alloc(), DOCUMENT)? else {
-        panic!(rt; "the document has no tree");
-    };
-    let missing = first_missing(names.symbols());
-    assert!(rt;
-        missing.is_none(),
-        "another name in place of {}",
-        missing.unwrap_or("")
-    );
-    assert!(rt;
-        names.symbols().len() == ROWS.len(),
-        "{} names",
-        names.symbols().len()
-    );
+    if let Some(wrong) = fault(rt.alloc())? {
+        panic!(rt; "{wrong}");
+    }
     Ok(())
 }

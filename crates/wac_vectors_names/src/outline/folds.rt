@@ -1,12 +1,12 @@
 //! What of texts can be folded.
 
-use std::alloc::Global;
-use std::test::Fail;
+use crate::marked::Row;
+use std::alloc::{AllocError, Global};
 use wac_comments_layout::{ReadError, read};
-use wac_lsp_outline::folds;
+use wac_lsp_outline::{Fold, folds};
 
 /// A text, and its parts that can be folded, each between `|`; comments with `#` before.
-static ROWS: [(&str, &str); 7] = [
+pub(crate) static FOLDS: [Row; 7] = [
     ("package a:b;", ""),
     ("interface i { f: func(); }", "| f: func(); |"),
     ("interface i {}", "||"),
@@ -19,31 +19,25 @@ static ROWS: [(&str, &str); 7] = [
     ("} interface i { interface j { }", "| |"),
 ];
 
-/// The parts of a text that can be folded.
-fn told(alloc: Global, text: &str) -> Result<String, Fail> {
+/// Parts of a text.
+fn parts(alloc: Global, text: &str, found: &[Fold]) -> Result<String, AllocError> {
     let mut told = String::new(alloc);
-    let pieces = match read(alloc, text, 1) {
-        Ok(pieces) => pieces,
-        Err(ReadError::Memory(error)) => return Err(Fail::from(error)),
-        Err(ReadError::Refused(_, _)) => return Ok(told),
-    };
-    let found = folds(alloc, pieces.as_slice())?;
-    for fold in found.as_slice() {
-        if fold.is_comment {
-            told.push('#')?;
-        }
-        told.push('|')?;
-        told.push_str(text.get(fold.start..fold.end).unwrap_or("?"))?;
-        told.push('|')?;
+    for fold in found {
+        let sign = if fold.is_comment { "#" } else { "" };
+        let part = text.get(fold.start..fold.end).unwrap_or("?");
+        told.push_str(format!(in alloc; "{sign}|{part}|")?.as_str())?;
     }
     Ok(told)
 }
 
-#[test]
-fn parts_are_folded(rt: HostRuntime) -> Result<(), Fail> {
-    for (text, expected) in &ROWS {
-        let found = told(rt.alloc(), text)?;
-        assert!(rt; found.as_str() == *expected, "{text}: {found}");
+/// The parts of a text that can be folded.
+pub(crate) fn folded(alloc: Global, text: &str) -> Result<String, AllocError> {
+    match read(alloc, text, 1) {
+        Ok(pieces) => {
+            let found = folds(alloc, pieces.as_slice())?;
+            parts(alloc, text, found.as_slice())
+        }
+        Err(ReadError::Memory(error)) => Err(error),
+        Err(ReadError::Refused(_, _)) => Ok(String::new(alloc)),
     }
-    Ok(())
 }

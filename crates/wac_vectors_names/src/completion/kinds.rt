@@ -1,4 +1,4 @@
-//! Texts with a mark, `|`, at an offset, and which kinds of tokens can stand there.
+//! Which kinds of tokens can stand at an offset.
 //!
 //! The kinds are in the order of `Token`: a keyword or a symbol by its text, and `id`, `str`, `name` and `path` for an
 //! identifier, a string, a package name and a package path. Each list is worked out by hand from docs/GRAMMAR.md.
@@ -6,9 +6,6 @@
 use std::alloc::{AllocError, Global};
 use wac_completion::kinds_at;
 use wac_lexer::Token;
-
-/// A text with a mark, and the kinds.
-pub(crate) type Row = (&'static str, &'static str);
 
 /// What begins a statement.
 pub(crate) const STATEMENT: &str =
@@ -38,7 +35,7 @@ fn label(kind: Token) -> &'static str {
     }
 }
 
-/// The kinds at an offset, as rows have them.
+/// The kinds at an offset.
 pub(crate) fn line_at(alloc: Global, text: &str, offset: usize) -> Result<String, AllocError> {
     let mut line = String::new(alloc);
     for kind in &kinds_at(alloc, text, offset)? {
@@ -48,29 +45,4 @@ pub(crate) fn line_at(alloc: Global, text: &str, offset: usize) -> Result<String
         line.push_str(label(*kind))?;
     }
     Ok(line)
-}
-
-/// The kinds at the mark of a text.
-fn line_of(alloc: Global, marked: &str) -> Result<String, AllocError> {
-    let Some((before, after)) = marked.split_once('|') else {
-        return String::from_str(alloc, "no mark");
-    };
-    let mut text = String::from_str(alloc, before)?;
-    text.push_str(after)?;
-    line_at(alloc, text.as_str(), before.len())
-}
-
-/// The rows of which other kinds are found, each with these.
-pub(crate) fn wrong_rows(alloc: Global, rows: &[Row]) -> Result<String, AllocError> {
-    let mut wrong = String::new(alloc);
-    for (marked, expected) in rows {
-        let found = line_of(alloc, marked)?;
-        if found.as_str() != *expected {
-            wrong.push_str(marked)?;
-            wrong.push_str("\n  ")?;
-            wrong.push_str(found.as_str())?;
-            wrong.push('\n')?;
-        }
-    }
-    Ok(wrong)
 }
