@@ -1,18 +1,17 @@
 //! Readers, writers and memory that fail, and writers that take few bytes a call.
 
 use crate::narrow::{Narrow, Stop};
-use crate::runs::{FIRST, FIRST_PRINTED, SECOND, SECOND_AS_JSON, is_reported, ran};
+use crate::runs::{FIRST, FIRST_PRINTED, SECOND, SECOND_AS_JSON, end_of};
 use std::alloc::{AllocError, Global};
-use std::process::Abort;
 use std::test::Fail;
-use wac_tool::{Command, RunError};
+use wac_tool::Command;
 
 /// A command, an input, and what is written of it.
 #[derive(Clone, Copy)]
-struct Row<'a> {
-    command: Command,
-    input: &'a str,
-    text: &'a str,
+pub struct Row<'a> {
+    pub command: Command,
+    pub input: &'a str,
+    pub text: &'a str,
 }
 
 static ROWS: [Row<'static>; 7] = [
@@ -54,60 +53,60 @@ static ROWS: [Row<'static>; 7] = [
 ];
 
 impl Row<'_> {
-    fn written(&self, alloc: Global, writer: &mut Narrow<'_>) -> Result<(), RunError> {
-        ran(alloc, self.command, self.input.as_bytes(), writer)
+    /// How a run with this writer ends.
+    fn end(&self, alloc: Global, writer: &mut Narrow<'_>) -> &'static str {
+        end_of(alloc, self.command, self.input.as_bytes(), writer)
     }
 
-    /// Asserts that a writer that fails is reported, and holds the bytes that it had room for.
-    fn fails_at(&self, rt: &impl Abort, alloc: Global, width: usize, room: usize) {
+    /// Whether a writer that fails is reported, and holds the bytes that it had room for.
+    fn fails_at(&self, alloc: Global, width: usize, room: usize) -> bool {
         let mut writer = Narrow::new(self.text, width, room);
-        match self.written(alloc, &mut writer) {
-            Err(RunError::Output) => writer.holds(rt, room),
-            _ => assert!(rt; false, "at {room}, {width} bytes a call"),
-        }
+        self.end(alloc, &mut writer) == "output" && writer.holds(room)
     }
 
-    /// Asserts it for each byte of the text.
-    fn fails_at_each(&self, rt: &impl Abort, alloc: Global, width: usize) {
+    /// Whether this is so at each byte of the text.
+    fn fails_at_each(&self, alloc: Global, width: usize) -> bool {
         for room in 0..self.text.len() {
-            self.fails_at(rt, alloc, width, room);
+            if !self.fails_at(alloc, width, room) {
+                return false;
+            }
         }
+        true
     }
 
-    /// Asserts that a writer that stops after this many bytes is reported, and returns how often it was called.
-    fn calls_of(
+    /// Whether a writer that stops after this many bytes is reported, and was called so often.
+    fn stops_after(
         &self,
-        rt: &impl Abort,
         alloc: Global,
         mut writer: Narrow<'_>,
         room: usize,
-    ) -> usize {
-        match self.written(alloc, &mut writer) {
-            Err(RunError::Output) => writer.holds(rt, room),
-            _ => assert!(rt; false, "at {room}"),
-        }
-        writer.calls()
+        calls: usize,
+    ) -> bool {
+        self.end(alloc, &mut writer) == "output" && writer.holds(room) && writer.calls() == calls
     }
 
-    /// Asserts that a writer takes all of the text, and in this many calls.
-    fn is_taken(&self, rt: &impl Abort, alloc: Global, width: usize, calls: usize) {
+    /// Whether a writer takes all of the text, and in this many calls.
+    pub fn is_taken(&self, alloc: Global, width: usize, calls: usize) -> bool {
         let mut writer = Narrow::new(self.text, width, usize::MAX);
-        let result = self.written(alloc, &mut writer);
-        assert!(rt; result.is_ok(), "{width} bytes a call");
-        writer.holds(rt, self.text.len());
-        assert!(rt; writer.calls() == calls, "of {width}");
+        let end = self.end(alloc, &mut writer);
+        end == "well" && writer.holds(self.text.len()) && writer.calls() == calls
     }
 
-    /// Asserts what is written where requests for memory may fail.
-    fn is_written_or_memory_runs_out(&self, rt: &impl Abort, alloc: Global) {
+    /// Whether a writer takes all of the text in this many calls, and fails at each byte where it has no more room.
+    fn is_taken_or_fails(&self, alloc: Global, width: usize, calls: usize) -> bool {
+        self.is_taken(alloc, width, calls) && self.fails_at_each(alloc, width)
+    }
+
+    /// Whether the text is written, or requests for memory fail. What is rejected is written as nothing.
+    fn is_written_or_memory_runs_out(&self, alloc: Global) -> bool {
         let mut writer = Narrow::new(self.text, 1, usize::MAX);
-        let result = self.written(alloc, &mut writer);
-        writer.holds(rt, writer.moved());
-        match result {
-            Ok(()) => assert!(rt; writer.moved() == self.text.len(), "of {}", self.text),
-            Err(RunError::Refused { .. }) => assert!(rt; self.text == "", "what is rejected"),
-            Err(error) => is_reported(rt, &error, "out of memory\n", 4),
-        }
+        let end = self.end(alloc, &mut writer);
+        let is_end = match end {
+            "well" => writer.moved() == self.text.len(),
+            "rejected" => self.text == "",
+            _ => end == "memory",
+        };
+        is_end && writer.holds(writer.moved())
     }
 }
 
@@ -116,36 +115,54 @@ impl Row<'_> {
 fn narrow_writers(rt: HostRuntime) {
     for row in &ROWS {
         let len = row.text.len();
-        for (width, calls) in [
-            (1, len),
-            (3, len.div_ceil(3)),
-            (usize::MAX, usize::from(len > 0)),
-        ] {
-            row.is_taken(&rt, rt.alloc(), width, calls);
-            row.fails_at_each(&rt, rt.alloc(), width);
-        }
+        let all = usize::from(len > 0);
+        assert!(rt;
+            row.is_taken_or_fails(rt.alloc(), 1, len),
+            "of {}",
+            row.text
+        );
+        assert!(rt;
+            row.is_taken_or_fails(rt.alloc(), 3, len.div_ceil(3)),
+            "of {}",
+            row.text
+        );
+        assert!(rt;
+            row.is_taken_or_fails(rt.alloc(), usize::MAX, all),
+            "of {}",
+            row.text
+        );
     }
 }
 
-/// Asserts for each byte of a row's text that a writer that stops there isn't called again, though it would continue.
-fn writers_stop_once(rt: &impl Abort, alloc: Global, row: &Row, stop: Stop) {
+/// Whether at each byte of a row's text a writer that stops there isn't called again, though it would continue.
+fn writers_stop_once(alloc: Global, row: &Row, stop: Stop) -> bool {
     for room in 0..row.text.len() {
         let narrow = Narrow::new(row.text, 1, room).stopping(stop);
         let wide = Narrow::new(row.text, usize::MAX, room).stopping(stop);
-        let calls = row.calls_of(rt, alloc, narrow, room);
-        assert!(rt; calls == room.wrapping_add(1), "at {room}, a byte a call");
-        let calls = row.calls_of(rt, alloc, wide, room);
-        assert!(rt; calls == usize::from(room > 0).wrapping_add(1), "at {room}");
+        let calls = usize::from(room > 0).wrapping_add(1);
+        if !row.stops_after(alloc, narrow, room, room.wrapping_add(1))
+            || !row.stops_after(alloc, wide, room, calls)
+        {
+            return false;
+        }
     }
+    true
 }
 
 /// A writer that fails, or takes nothing, at one call alone.
 #[test]
 fn writers_are_not_tried_again(rt: HostRuntime) {
     for row in &ROWS {
-        for stop in [Stop::FailsOnce, Stop::EndsOnce] {
-            writers_stop_once(&rt, rt.alloc(), row, stop);
-        }
+        assert!(rt;
+            writers_stop_once(rt.alloc(), row, Stop::FailsOnce),
+            "of {}",
+            row.text
+        );
+        assert!(rt;
+            writers_stop_once(rt.alloc(), row, Stop::EndsOnce),
+            "of {}",
+            row.text
+        );
     }
 }
 
@@ -165,8 +182,7 @@ fn items(alloc: Global) -> Result<String, AllocError> {
 fn lines(alloc: Global) -> Result<String, AllocError> {
     let mut text = String::new(alloc);
     for at in 0..ITEMS {
-        let line = format!(in alloc; "{at}+1 unexpected token was encountered\n")?;
-        text.push_str(line.as_str())?;
+        writeln!(text, "{at}+1 unexpected token was encountered")?;
     }
     Ok(text)
 }
@@ -187,8 +203,7 @@ fn long_texts_are_written(rt: HostRuntime) -> Result<(), Fail> {
     let text = lines(rt.alloc())?;
     let row = listed(&input, &text);
     assert!(rt; text.len() > 16_384);
-    row.is_taken(&rt, rt.alloc(), 1, text.len());
-    row.is_taken(&rt, rt.alloc(), usize::MAX, 3);
+    assert!(rt; row.is_taken(rt.alloc(), 1, text.len()) && row.is_taken(rt.alloc(), usize::MAX, 3));
     Ok(())
 }
 
@@ -197,7 +212,7 @@ fn long_texts_are_written(rt: HostRuntime) -> Result<(), Fail> {
 fn long_texts_are_cut_at_each_byte(rt: HostRuntime) -> Result<(), Fail> {
     let input = items(rt.alloc())?;
     let text = lines(rt.alloc())?;
-    listed(&input, &text).fails_at_each(&rt, rt.alloc(), usize::MAX);
+    assert!(rt; listed(&input, &text).fails_at_each(rt.alloc(), usize::MAX));
     Ok(())
 }
 
@@ -210,42 +225,39 @@ const COMMANDS: [Command; 6] = [
     Command::Check,
 ];
 
-/// Asserts that a reader that fails is reported, and that nothing was written.
-fn reading_fails_at(rt: &impl Abort, alloc: Global, command: Command, room: usize) {
+/// Whether a reader that fails is reported, nothing was written, and the reader isn't called again.
+fn reading_fails_at(alloc: Global, command: Command, stop: Stop, room: usize) -> bool {
+    let mut reader = Narrow::new(FIRST, 1, room).stopping(stop);
     let mut writer = Narrow::new("", usize::MAX, usize::MAX);
-    match ran(alloc, command, Narrow::new(FIRST, 1, room), &mut writer) {
-        Err(RunError::Input) => assert!(rt; writer.calls() == 0, "of {room}"),
-        _ => assert!(rt; false, "at {room}"),
-    }
+    let end = end_of(alloc, command, &mut reader, &mut writer);
+    end == "input"
+        && writer.calls() == 0
+        && reader.moved() == room
+        && reader.calls() == room.wrapping_add(1)
 }
 
+/// Whether this is so at each byte of a text.
+fn reading_fails_at_each(alloc: Global, command: Command, stop: Stop) -> bool {
+    for room in 0..FIRST.len() + 1 {
+        if !reading_fails_at(alloc, command, stop, room) {
+            return false;
+        }
+    }
+    true
+}
+
+/// A reader that fails at each call from one on, or at one call alone.
 #[test]
 fn readers(rt: HostRuntime) {
     for command in COMMANDS {
-        for room in 0..FIRST.len() + 1 {
-            reading_fails_at(&rt, rt.alloc(), command, room);
-        }
-    }
-}
-
-/// Asserts that a reader that fails at one call alone is reported, and isn't called again.
-fn reading_is_not_tried_again(rt: &impl Abort, alloc: Global, command: Command, room: usize) {
-    let mut reader = Narrow::new(FIRST, 1, room).stopping(Stop::FailsOnce);
-    let mut writer = Narrow::new("", usize::MAX, usize::MAX);
-    match ran(alloc, command, &mut reader, &mut writer) {
-        Err(RunError::Input) => assert!(rt; writer.calls() == 0, "of {room}"),
-        _ => assert!(rt; false, "at {room}"),
-    }
-    assert!(rt; reader.moved() == room, "at {room}");
-    assert!(rt; reader.calls() == room.wrapping_add(1), "at {room}");
-}
-
-#[test]
-fn readers_are_not_tried_again(rt: HostRuntime) {
-    for command in COMMANDS {
-        for room in 0..FIRST.len() + 1 {
-            reading_is_not_tried_again(&rt, rt.alloc(), command, room);
-        }
+        assert!(rt;
+            reading_fails_at_each(rt.alloc(), command, Stop::Fails),
+            "{command:?}"
+        );
+        assert!(rt;
+            reading_fails_at_each(rt.alloc(), command, Stop::FailsOnce),
+            "{command:?}"
+        );
     }
 }
 
@@ -285,15 +297,15 @@ static OF_A_LINE: [Row<'static>; 5] = [
 ];
 
 impl Row<'_> {
-    /// Asserts what is written from a reader that ends after a line and would give another, and after how many calls.
-    fn ends_with_a_line(&self, rt: &impl Abort, alloc: Global, width: usize, calls: usize) {
+    /// Whether the text is written of a reader that ends after a line and would give another, after so many calls.
+    fn ends_with_a_line(&self, alloc: Global, width: usize, calls: usize) -> bool {
         let mut reader = Narrow::new(self.input, width, LINE).stopping(Stop::EndsOnce);
         let mut writer = Narrow::new(self.text, usize::MAX, usize::MAX);
-        let result = ran(alloc, self.command, &mut reader, &mut writer);
-        assert!(rt; result.is_ok(), "{width} bytes a call");
-        writer.holds(rt, self.text.len());
-        assert!(rt; reader.moved() == LINE, "{width} bytes a call");
-        assert!(rt; reader.calls() == calls, "{width} bytes a call");
+        let end = end_of(alloc, self.command, &mut reader, &mut writer);
+        end == "well"
+            && writer.holds(self.text.len())
+            && reader.moved() == LINE
+            && reader.calls() == calls
     }
 }
 
@@ -301,8 +313,16 @@ impl Row<'_> {
 #[test]
 fn readers_end_once(rt: HostRuntime) {
     for row in &OF_A_LINE {
-        row.ends_with_a_line(&rt, rt.alloc(), 1, LINE + 1);
-        row.ends_with_a_line(&rt, rt.alloc(), usize::MAX, 2);
+        assert!(rt;
+            row.ends_with_a_line(rt.alloc(), 1, LINE + 1),
+            "of {}",
+            row.text
+        );
+        assert!(rt;
+            row.ends_with_a_line(rt.alloc(), usize::MAX, 2),
+            "of {}",
+            row.text
+        );
     }
 }
 
@@ -353,9 +373,17 @@ static REJECTED: [Row<'static>; 8] = [
 #[test]
 fn memory_that_is_refused(rt: HostRuntime) {
     for row in &ROWS {
-        row.is_written_or_memory_runs_out(&rt, rt.alloc());
+        assert!(rt;
+            row.is_written_or_memory_runs_out(rt.alloc()),
+            "of {}",
+            row.input
+        );
     }
     for row in &REJECTED {
-        row.is_written_or_memory_runs_out(&rt, rt.alloc());
+        assert!(rt;
+            row.is_written_or_memory_runs_out(rt.alloc()),
+            "of {}",
+            row.input
+        );
     }
 }

@@ -1,28 +1,21 @@
-//! Tests of `wac_tool`: whole runs, and readers, writers and memory that fail;
-//! documents made by a seeded generator, which are read, printed and resolved; the lines of a graph, and a graph in the
-//! forms of `wacx graph`.
+//! Tests of `wac_tool` and of resolving whole documents: runs, and readers, writers and memory that fail; documents with
+//! their graphs or errors; the lines of a graph, and a graph in the forms of `wacx graph`.
 #![tactic(auto)]
 
-#[cfg(test)]
-mod answers;
 #[cfg(test)]
 mod chains;
 #[cfg(test)]
 mod choices;
 #[cfg(test)]
-mod deep;
+mod documents;
+#[cfg(test)]
+mod entries;
+#[cfg(test)]
+mod errors;
 #[cfg(test)]
 mod failing;
 #[cfg(test)]
 mod formatting;
-#[cfg(test)]
-mod generated_comments;
-#[cfg(test)]
-mod generated_documents;
-#[cfg(test)]
-mod generated_texts;
-#[cfg(test)]
-mod generator;
 #[cfg(test)]
 mod graph_building;
 #[cfg(test)]
@@ -30,10 +23,22 @@ mod graph_lines;
 #[cfg(test)]
 mod graph_outputs;
 #[cfg(test)]
-mod graph_package;
-#[cfg(test)]
 mod graph_rules;
+#[cfg(test)]
+mod memory;
 #[cfg(test)]
 mod narrow;
 #[cfg(test)]
+mod order;
+#[cfg(test)]
+mod packages;
+#[cfg(test)]
+mod readings;
+#[cfg(test)]
+mod rows;
+#[cfg(test)]
+mod rules;
+#[cfg(test)]
 mod runs;
+#[cfg(test)]
+mod types;

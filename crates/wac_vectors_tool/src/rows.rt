@@ -146,13 +146,9 @@ static GRAPHS: &[Row] = &[
 ];
 
 #[test]
-fn declarations(rt: HostRuntime) -> Result<(), Fail> {
+fn worked_examples(rt: HostRuntime) -> Result<(), Fail> {
     hold(&rt, rt.alloc(), Asked::Answer, DECLARATIONS)?;
-    Ok(hold(&rt, rt.alloc(), Asked::World, WORLDS)?)
-}
-
-#[test]
-fn compositions(rt: HostRuntime) -> Result<(), Fail> {
+    hold(&rt, rt.alloc(), Asked::World, WORLDS)?;
     hold(&rt, rt.alloc(), Asked::Answer, COMPOSITIONS)?;
     Ok(hold(&rt, rt.alloc(), Asked::Answer, GRAPHS)?)
 }

@@ -25,7 +25,7 @@ pub enum Asked {
 }
 
 /// The lines of a graph.
-pub fn lines(alloc: Global, graph: &CompositionGraph) -> Result<String, AllocError> {
+fn lines(alloc: Global, graph: &CompositionGraph) -> Result<String, AllocError> {
     let mut out = Bytes::new(alloc);
     if write_graph(graph, &mut out).is_err() {
         return Err(AllocError);

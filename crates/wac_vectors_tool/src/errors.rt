@@ -365,13 +365,9 @@ static TARGETS: &[Row] = &[
 ];
 
 #[test]
-fn errors_of_declarations(rt: HostRuntime) -> Result<(), Fail> {
+fn each_error_is_reported(rt: HostRuntime) -> Result<(), Fail> {
     hold(&rt, rt.alloc(), Asked::Answer, NAMES)?;
-    Ok(hold(&rt, rt.alloc(), Asked::Answer, TYPES)?)
-}
-
-#[test]
-fn errors_of_compositions(rt: HostRuntime) -> Result<(), Fail> {
+    hold(&rt, rt.alloc(), Asked::Answer, TYPES)?;
     hold(&rt, rt.alloc(), Asked::Answer, PACKAGES)?;
     hold(&rt, rt.alloc(), Asked::Answer, EXPORTS)?;
     Ok(hold(&rt, rt.alloc(), Asked::Answer, TARGETS)?)
