@@ -27,7 +27,7 @@ module _ (context : Context) (old : Parts) (root : Root) (agrees : Agrees old ro
   })
 
   pub func_kind_imported : (new : Parts) (x : ImportType) (f : FuncType) (k : ItemKind) → x ≡ ImportType.func f → AllSupplied (packages_in context) old → FuncMade old new root f k → ImportMade context old new root x k
-  func_kind_imported new x f k is held made = subst (λ (j : ItemKind). ImportMade context old new root x j) (sym made.1.0) (func_imported new x f made.0 is held made.1.1)
+  func_kind_imported new x f k is held made = subst (λ (j : ItemKind). ImportMade context old new root x j) (sym made.1) (func_imported new x f made.0 is held made.2)
 
   -- an interface that is written in place
   pub inline_imported : (new : Parts) (x : ImportType) (i : InlineInterface) (id : InterfaceId) → x ≡ ImportType.interface i → InterfaceMade context old new (values_of root.kinds) None i.items id → ImportMade context old new root x (kinds.Instance id)
