@@ -3,7 +3,7 @@
 use crate::completion::{foreign, kinds, names, packages};
 use crate::lsp_names::{hovers, places};
 use crate::marked::{Row, unmarked};
-use crate::names::offsets;
+use crate::names::{bounds, offsets};
 use crate::outline::{folds, symbols};
 use std::alloc::{AllocError, Global};
 use std::process::Abort;
@@ -23,6 +23,8 @@ pub(crate) enum Question {
     /// Where the name is bound that is there, and where it is used: in a document.
     Bound,
     Used,
+    /// What of the document is looked up in scopes.
+    LookedUp,
     /// Where the name is that is there, where it is bound, where it is used, and what is said of it: in a text with
     /// faults too.
     Place,
@@ -50,6 +52,7 @@ fn answer(
         Question::Package => packages::line_at(alloc, text, offset),
         Question::Bound => offsets::bound(alloc, text, offset),
         Question::Used => offsets::used(alloc, text, offset),
+        Question::LookedUp => bounds::looked_up(alloc, text),
         Question::Place => places::place(alloc, text, offset),
         Question::Definition => places::definition(alloc, text, offset),
         Question::References => places::references(alloc, text, offset),

@@ -1,8 +1,6 @@
 //! What binds each name of a document, and in whose declaration it is.
 
 use std::alloc::{AllocError, Global};
-use std::process::Abort;
-use std::test::Fail;
 use wac_names::{Kind, Name, Names};
 
 const DOCUMENT: &str = "package a:b;
@@ -86,19 +84,11 @@ fn first_missing(names: &[Name]) -> Option<&'static str> {
 }
 
 /// What is wrong with the names of the document.
-fn fault(alloc: Global) -> Result<Option<&'static str>, AllocError> {
+pub(crate) fn fault(alloc: Global) -> Result<Option<&'static str>, AllocError> {
     match Names::of_text(alloc, DOCUMENT) {
         Ok(Some(names)) if names.symbols().len() != ROWS.len() => Ok(Some("the number of names")),
         Ok(Some(names)) => Ok(first_missing(names.symbols())),
         Ok(None) => Ok(Some("no names")),
         Err(error) => Err(error),
     }
-}
-
-#[test]
-fn kinds_and_containers(rt: HostRuntime) -> Result<(), Fail> {
-    if let Some(wrong) = fault(rt.alloc())? {
-        panic!(rt; "{wrong}");
-    }
-    Ok(())
 }
