@@ -60,19 +60,48 @@ fn is_passed_over(
     Ok(!is_taken && found.is_empty() && !workspace.resolves(path))
 }
 
+/// The first document that isn't passed over, though it is in no folder.
+fn taken_elsewhere(
+    alloc: Global,
+    workspace: &mut Workspace,
+) -> Result<Option<&'static str>, AllocError> {
+    for path in &ELSEWHERE {
+        if !is_passed_over(alloc, workspace, path)? {
+            return Ok(Some(*path));
+        }
+    }
+    Ok(None)
+}
+
+/// What a workspace of which nothing was read does wrong, while a document is opened and closed.
+fn fault(alloc: Global, workspace: &mut Workspace) -> Result<Option<&'static str>, AllocError> {
+    let path = "/project/b.wac";
+    if workspace.resolves(path) {
+        return Ok(Some("a folder without packages isn't as none"));
+    }
+    if !workspace.open(alloc, path, "file:///project/b.wac", B)? {
+        return Ok(Some("a document declares no package"));
+    }
+    if !workspace.resolves(path) || !workspace.resolves("/project/app.wac") {
+        return Ok(Some("a folder with a package is as none"));
+    }
+    if let Some(path) = taken_elsewhere(alloc, workspace)? {
+        return Ok(Some(path));
+    }
+    if !workspace.close(alloc, path)? {
+        return Ok(Some("a closed document stays"));
+    }
+    // It isn't open any more.
+    if workspace.close(alloc, path)? {
+        return Ok(Some("a document is closed twice"));
+    }
+    Ok(None)
+}
+
 #[test]
 fn documents_of_folders_are_resolved(rt: HostRuntime) -> Result<(), Fail> {
-    let alloc = rt.alloc();
-    let mut workspace = empty(alloc)?;
-    // A folder without packages is as none.
-    assert!(rt; !workspace.resolves("/project/app.wac"));
-    assert!(rt; workspace.open(alloc, "/project/b.wac", "file:///project/b.wac", B)?);
-    assert!(rt; workspace.resolves("/project/app.wac") && workspace.resolves("/project/b.wac"));
-    for path in &ELSEWHERE {
-        assert!(rt; is_passed_over(alloc, &mut workspace, path)?, "{path}");
-    }
-    assert!(rt; workspace.close(alloc, "/project/b.wac")?);
-    // It isn't open any more.
-    assert!(rt; !workspace.close(alloc, "/project/b.wac")?);
+    let mut workspace = empty(rt.alloc())?;
+    let found = fault(rt.alloc(), &mut workspace)?;
+    assert!(rt; found.is_none(), "{}", found.unwrap_or(""));
     Ok(())
 }

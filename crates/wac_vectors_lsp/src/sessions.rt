@@ -42,7 +42,7 @@ const BEGINS: &str =
     "{\"id\":1,\"jsonrpc\":\"2.0\",\"method\":\"initialize\",\"params\":{\"capabilities\":{\"textDocument\":{\"codeAction\":{\"codeActionLiteralSupport\":{\"codeActionKind\":{\"valueSet\":[]}}},\"publishDiagnostics\":{\"relatedInformation\":true}},\"workspace\":{\"didChangeWatchedFiles\":{\"dynamicRegistration\":true}}},\"workspaceFolders\":[{\"name\":\"p\",\"uri\":\"file:///my%20project\"}]}}";
 
 /// A composition with `a:b` is opened, and the document of `a:b` is opened, changed and closed.
-static ROWS: [Row; 12] = [
+static ROWS: [Row; 13] = [
     (
         "{\"jsonrpc\":\"2.0\",\"method\":\"initialized\",\"params\":{}}",
         "{\"id\":\"files\",\"jsonrpc\":\"2.0\",\"method\":\"client/registerCapability\",\"params\":{\"registrations\":[{\"id\":\"files\",\"method\":\"workspace/didChangeWatchedFiles\",\"registerOptions\":{\"watchers\":[{\"globPattern\":\"**/*.{wac,wasm}\"}]}}]}}\n",
@@ -60,6 +60,11 @@ static ROWS: [Row; 12] = [
         "{\"jsonrpc\":\"2.0\",\"method\":\"textDocument/didChange\",\"params\":{\"contentChanges\":[{\"text\":\"package a:b;\\nworld w { }\\n\"}],\"textDocument\":{\"uri\":\"file:///my%20project/%62.wac\",\"version\":2}}}",
         "{\"jsonrpc\":\"2.0\",\"method\":\"textDocument/publishDiagnostics\",\"params\":{\"diagnostics\":[{\"code\":\"wac::missing-instance-export\",\"message\":\"the instance has no export named `f`\\n`x` has nothing\",\"range\":{\"end\":{\"character\":10,\"line\":2},\"start\":{\"character\":8,\"line\":2}},\"relatedInformation\":[],\"severity\":1,\"source\":\"wac\"}],\"uri\":\"file:///my%20project/app.wac\",\"version\":1}}\n\
          {\"jsonrpc\":\"2.0\",\"method\":\"textDocument/publishDiagnostics\",\"params\":{\"diagnostics\":[],\"uri\":\"file:///my%20project/%62.wac\",\"version\":2}}\n",
+    ),
+    // What a change of the composition alone leaves wrong.
+    (
+        "{\"jsonrpc\":\"2.0\",\"method\":\"textDocument/didChange\",\"params\":{\"contentChanges\":[{\"text\":\"package a:app;\\nlet x = new a:b { };\\nexport x.f ;\\n\"}],\"textDocument\":{\"uri\":\"file:///my%20project/app.wac\",\"version\":2}}}",
+        "{\"jsonrpc\":\"2.0\",\"method\":\"textDocument/publishDiagnostics\",\"params\":{\"diagnostics\":[{\"code\":\"wac::missing-instance-export\",\"message\":\"the instance has no export named `f`\\n`x` has nothing\",\"range\":{\"end\":{\"character\":10,\"line\":2},\"start\":{\"character\":8,\"line\":2}},\"relatedInformation\":[],\"severity\":1,\"source\":\"wac\"}],\"uri\":\"file:///my%20project/app.wac\",\"version\":2}}\n",
     ),
     (
         "{\"id\":2,\"jsonrpc\":\"2.0\",\"method\":\"textDocument/definition\",\"params\":{\"position\":{\"character\":13,\"line\":1},\"textDocument\":{\"uri\":\"file:///my%20project/app.wac\"}}}",
@@ -189,7 +194,11 @@ const BEGINS_WITH_PACKAGES: &str =
     "{\"id\":0,\"jsonrpc\":\"2.0\",\"method\":\"initialize\",\"params\":{\"capabilities\":{},\"workspaceFolders\":[{\"name\":\"p\",\"uri\":\"file:///p\"}]}}";
 
 /// What is told of compositions of these.
-static OF_PACKAGES: [Row; 10] = [
+static OF_PACKAGES: [Row; 11] = [
+    (
+        "{\"jsonrpc\":\"2.0\",\"method\":\"initialized\",\"params\":{}}",
+        "",
+    ),
     // A package with two worlds of which none is chosen is no error.
     (
         "{\"jsonrpc\":\"2.0\",\"method\":\"textDocument/didOpen\",\"params\":{\"textDocument\":{\"languageId\":\"wac\",\"text\":\"package a:app;\\nlet x = new t:w { };\\n\",\"uri\":\"file:///p/app.wac\",\"version\":1}}}",
@@ -242,10 +251,16 @@ const BEGINS_WITHOUT: &str =
     "{\"id\":0,\"jsonrpc\":\"2.0\",\"method\":\"initialize\",\"params\":{\"capabilities\":{},\"workspaceFolders\":[{\"name\":\"e\",\"uri\":\"file:///e\"}]}}";
 
 /// A composition in a folder without packages.
-static ALONE: [Row; 1] = [(
-    "{\"jsonrpc\":\"2.0\",\"method\":\"textDocument/didOpen\",\"params\":{\"textDocument\":{\"languageId\":\"wac\",\"text\":\"package a:app;\\nlet x = new a:b { };\\n\",\"uri\":\"file:///e/app.wac\",\"version\":1}}}",
-    "{\"jsonrpc\":\"2.0\",\"method\":\"textDocument/publishDiagnostics\",\"params\":{\"diagnostics\":[],\"uri\":\"file:///e/app.wac\",\"version\":1}}\n",
-)];
+static ALONE: [Row; 2] = [
+    (
+        "{\"jsonrpc\":\"2.0\",\"method\":\"initialized\",\"params\":{}}",
+        "",
+    ),
+    (
+        "{\"jsonrpc\":\"2.0\",\"method\":\"textDocument/didOpen\",\"params\":{\"textDocument\":{\"languageId\":\"wac\",\"text\":\"package a:app;\\nlet x = new a:b { };\\n\",\"uri\":\"file:///e/app.wac\",\"version\":1}}}",
+        "{\"jsonrpc\":\"2.0\",\"method\":\"textDocument/publishDiagnostics\",\"params\":{\"diagnostics\":[],\"uri\":\"file:///e/app.wac\",\"version\":1}}\n",
+    ),
+];
 
 static PROJECT_FOLDERS: [&str; 1] = ["/my project"];
 
@@ -392,11 +407,12 @@ fn push_framed(stream: &mut String, alloc: Global, body: &str) -> Result<(), All
     stream.push_str(format!(in alloc; "Content-Length: {len}\r\n\r\n{body}")?.as_str())
 }
 
-/// A client begins and opens a document, in one stream.
+/// A client begins, and opens and changes a document, in one stream.
 fn beginning(alloc: Global) -> Result<String, AllocError> {
     let mut stream = String::new(alloc);
-    push_framed(&mut stream, alloc, BEGINS)?;
-    push_framed(&mut stream, alloc, ROWS[1].0)?;
+    for body in [BEGINS, ROWS[0].0, ROWS[1].0, ROWS[10].0] {
+        push_framed(&mut stream, alloc, body)?;
+    }
     Ok(stream)
 }
 
@@ -418,8 +434,8 @@ fn a_stream_of_messages_is_served(rt: HostRuntime) -> Result<(), Fail> {
     push_framed(&mut stream, alloc, "{\"method\":\"exit\"}")?;
     let mut output = Narrow::new(alloc, usize::MAX);
     let found = ending(alloc, Pieces::new(stream.as_bytes(), 1), &mut output)?;
-    // The document that it opens has what it needs in the folder.
-    let wanted = "\"diagnostics\":[],\"uri\":\"file:///my%20project/app.wac\"";
+    // The folder was looked at.
+    let wanted = "no file of the folders has it";
     let written = str::from_utf8(output.bytes()).unwrap_or("");
     assert!(rt;
         found.as_str() == "status 0" && written.contains(wanted),
