@@ -410,7 +410,7 @@ fn push_framed(stream: &mut String, alloc: Global, body: &str) -> Result<(), All
 /// A client begins, and opens and changes a document, in one stream.
 fn beginning(alloc: Global) -> Result<String, AllocError> {
     let mut stream = String::new(alloc);
-    for body in [BEGINS, ROWS[0].0, ROWS[1].0, ROWS[10].0] {
+    for body in [BEGINS, ROWS[0].0, ROWS[1].0, ROWS[11].0] {
         push_framed(&mut stream, alloc, body)?;
     }
     Ok(stream)
