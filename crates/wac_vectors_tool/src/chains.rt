@@ -33,6 +33,10 @@ fn chains_that_begin_otherwise_are_rejected(rt: HostRuntime) -> Result<(), Fail>
     let text = document(rt.alloc())?;
     let mut written = Vec::new(rt.alloc());
     let end = end_of(rt.alloc(), Command::Resolve, text.as_bytes(), &mut written);
-    assert!(rt; end == "rejected" && written.is_empty(), "{end}");
+    assert!(rt;
+        end.word() == "rejected" && written.is_empty(),
+        "{}",
+        end.word()
+    );
     Ok(())
 }

@@ -1,7 +1,7 @@
 //! Readers, writers and memory that fail, and writers that take few bytes a call.
 
 use crate::narrow::{Narrow, Stop};
-use crate::runs::{FIRST, FIRST_PRINTED, SECOND, SECOND_AS_JSON, end_of};
+use crate::runs::{End, FIRST, FIRST_PRINTED, SECOND, SECOND_AS_JSON, end_of};
 use std::alloc::{AllocError, Global};
 use std::test::Fail;
 use wac_tool::Command;
@@ -54,14 +54,14 @@ static ROWS: [Row<'static>; 7] = [
 
 impl Row<'_> {
     /// How a run with this writer ends.
-    fn end(&self, alloc: Global, writer: &mut Narrow<'_>) -> &'static str {
+    fn end(&self, alloc: Global, writer: &mut Narrow<'_>) -> End {
         end_of(alloc, self.command, self.input.as_bytes(), writer)
     }
 
     /// Whether a writer that fails is reported, and holds the bytes that it had room for.
     fn fails_at(&self, alloc: Global, width: usize, room: usize) -> bool {
         let mut writer = Narrow::new(self.text, width, room);
-        self.end(alloc, &mut writer) == "output" && writer.holds(room)
+        self.end(alloc, &mut writer).word() == "output" && writer.holds(room)
     }
 
     /// Whether this is so at each byte of the text.
@@ -82,14 +82,16 @@ impl Row<'_> {
         room: usize,
         calls: usize,
     ) -> bool {
-        self.end(alloc, &mut writer) == "output" && writer.holds(room) && writer.calls() == calls
+        self.end(alloc, &mut writer).word() == "output"
+            && writer.holds(room)
+            && writer.calls() == calls
     }
 
     /// Whether a writer takes all of the text, and in this many calls.
     pub fn is_taken(&self, alloc: Global, width: usize, calls: usize) -> bool {
         let mut writer = Narrow::new(self.text, width, usize::MAX);
         let end = self.end(alloc, &mut writer);
-        end == "well" && writer.holds(self.text.len()) && writer.calls() == calls
+        end.word() == "well" && writer.holds(self.text.len()) && writer.calls() == calls
     }
 
     /// Whether a writer takes all of the text in this many calls, and fails at each byte where it has no more room.
@@ -101,10 +103,10 @@ impl Row<'_> {
     fn is_written_or_memory_runs_out(&self, alloc: Global) -> bool {
         let mut writer = Narrow::new(self.text, 1, usize::MAX);
         let end = self.end(alloc, &mut writer);
-        let is_end = match end {
+        let is_end = match end.word() {
             "well" => writer.moved() == self.text.len(),
             "rejected" => self.text == "",
-            _ => end == "memory",
+            word => word == "memory",
         };
         is_end && writer.holds(writer.moved())
     }
@@ -230,7 +232,7 @@ fn reading_fails_at(alloc: Global, command: Command, stop: Stop, room: usize) ->
     let mut reader = Narrow::new(FIRST, 1, room).stopping(stop);
     let mut writer = Narrow::new("", usize::MAX, usize::MAX);
     let end = end_of(alloc, command, &mut reader, &mut writer);
-    end == "input"
+    end.word() == "input"
         && writer.calls() == 0
         && reader.moved() == room
         && reader.calls() == room.wrapping_add(1)
@@ -302,7 +304,7 @@ impl Row<'_> {
         let mut reader = Narrow::new(self.input, width, LINE).stopping(Stop::EndsOnce);
         let mut writer = Narrow::new(self.text, usize::MAX, usize::MAX);
         let end = end_of(alloc, self.command, &mut reader, &mut writer);
-        end == "well"
+        end.word() == "well"
             && writer.holds(self.text.len())
             && reader.moved() == LINE
             && reader.calls() == calls

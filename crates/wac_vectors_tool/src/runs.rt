@@ -18,20 +18,45 @@ fn ran<R: Read + Drop, W: Write + Drop>(
     run(alloc, command, &mut In::new(reader), &mut Out::new(writer))
 }
 
-/// How a run ends, in a word.
+/// How a run ends.
+#[derive(Clone, Copy)]
+pub enum End {
+    Well,
+    Rejected,
+    Input,
+    Output,
+    Memory,
+    Bytes,
+}
+
+impl End {
+    /// How it ends, in a word. What is generic returns no such text, for the prover's sake.
+    pub fn word(self) -> &'static str {
+        match self {
+            End::Well => "well",
+            End::Rejected => "rejected",
+            End::Input => "input",
+            End::Output => "output",
+            End::Memory => "memory",
+            End::Bytes => "bytes",
+        }
+    }
+}
+
+/// How a run ends, without its error.
 pub fn end_of<R: Read + Drop, W: Write + Drop>(
     alloc: Global,
     command: Command,
     reader: R,
     writer: W,
-) -> &'static str {
+) -> End {
     match ran(alloc, command, reader, writer) {
-        Ok(()) => "well",
-        Err(RunError::Refused { .. }) => "rejected",
-        Err(RunError::Input) => "input",
-        Err(RunError::Output) => "output",
-        Err(RunError::Memory(_)) => "memory",
-        Err(RunError::NotUtf8) => "bytes",
+        Ok(()) => End::Well,
+        Err(RunError::Refused { .. }) => End::Rejected,
+        Err(RunError::Input) => End::Input,
+        Err(RunError::Output) => End::Output,
+        Err(RunError::Memory(_)) => End::Memory,
+        Err(RunError::NotUtf8) => End::Bytes,
     }
 }
 
@@ -84,7 +109,7 @@ fn each_word_writes_what_it_is_asked_for(rt: HostRuntime) {
 fn bytes_that_are_no_text_are_rejected(rt: HostRuntime) {
     let mut writer = Narrow::new("", usize::MAX, usize::MAX);
     let end = end_of(rt.alloc(), Command::Json, b"a\xff".as_slice(), &mut writer);
-    assert!(rt; end == "bytes" && writer.calls() == 0);
+    assert!(rt; end.word() == "bytes" && writer.calls() == 0);
 }
 
 /// Whether a line is said of an error.
