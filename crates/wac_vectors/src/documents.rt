@@ -75,13 +75,13 @@ static PARSED: [(&str, &str); 12] = [
     ),
 ];
 
-/// The first text that isn't parsed as its row says.
-fn first_not_parsed(alloc: Global) -> Result<Option<&'static str>, AllocError> {
-    for (source, end) in &PARSED {
+/// The number of the first row whose text isn't parsed as it says.
+fn first_not_parsed(alloc: Global) -> Result<Option<usize>, AllocError> {
+    for (at, (source, end)) in PARSED.iter().enumerate() {
         let text = shown(alloc, source)?;
         let text = text.as_str();
         if text != *end && !(text.starts_with(SHOWN) && text.ends_with(*end)) {
-            return Ok(Some(*source));
+            return Ok(Some(at));
         }
     }
     Ok(None)
@@ -93,7 +93,7 @@ fn texts_are_parsed(rt: HostRuntime) -> Result<(), Fail> {
         Ok(wrong) => wrong,
         Err(AllocError) => first_not_parsed(rt.alloc())?,
     };
-    assert!(rt; wrong == None, "{wrong:?}");
+    assert!(rt; wrong.is_none(), "row {wrong:?}");
     Ok(())
 }
 
