@@ -6,8 +6,8 @@ use std::alloc::{AllocError, Global};
 use std::test::Fail;
 use wac_graph_types::{InterfaceId, ItemKind, ModuleTypeId, Package, Type, Types};
 
-/// A module and a type of modules of each of two numbers; a value and an instance, each with its type. The table has one
-/// interface.
+/// A module and a type of modules of each of two numbers; a value and an instance, each with its type. The table has a
+/// world, and behind it an interface.
 const ITEMS: [ItemKind; 8] = [
     ItemKind::Module(ModuleTypeId(0)),
     ItemKind::Module(ModuleTypeId(1)),
@@ -15,8 +15,8 @@ const ITEMS: [ItemKind; 8] = [
     ItemKind::Ty(Type::Module(ModuleTypeId(1))),
     ItemKind::Value(BYTE),
     ItemKind::Ty(Type::Value(BYTE)),
-    ItemKind::Instance(InterfaceId(0)),
-    ItemKind::Ty(Type::Interface(InterfaceId(0))),
+    ItemKind::Instance(InterfaceId(1)),
+    ItemKind::Ty(Type::Interface(InterfaceId(1))),
 ];
 
 /// Whether one of the items fits itself, and no other one.
