@@ -1,13 +1,12 @@
 //! Modules and types of modules, values beside their types, and instances beside theirs, which no document declares.
 
-use crate::building::BYTE;
+use crate::building::{BYTE, instance};
 use crate::tables::{NAMES, fits, package_of};
 use std::alloc::{AllocError, Global};
 use std::test::Fail;
-use wac_graph_types::{InterfaceId, ItemKind, ModuleTypeId, Package, Type, Types};
+use wac_graph_types::{InterfaceId, ItemKind, ModuleTypeId, Package, PackageError, Type, Types};
 
-/// A module and a type of modules of each of two numbers; a value and an instance, each with its type. The table has a
-/// world, and behind it an interface.
+/// A module and a type of modules of each of two numbers; a value and an instance, each with its type.
 const ITEMS: [ItemKind; 8] = [
     ItemKind::Module(ModuleTypeId(0)),
     ItemKind::Module(ModuleTypeId(1)),
@@ -15,8 +14,8 @@ const ITEMS: [ItemKind; 8] = [
     ItemKind::Ty(Type::Module(ModuleTypeId(1))),
     ItemKind::Value(BYTE),
     ItemKind::Ty(Type::Value(BYTE)),
-    ItemKind::Instance(InterfaceId(1)),
-    ItemKind::Ty(Type::Interface(InterfaceId(1))),
+    ItemKind::Instance(InterfaceId(0)),
+    ItemKind::Ty(Type::Interface(InterfaceId(0))),
 ];
 
 /// Whether one of the items fits itself, and no other one.
@@ -29,10 +28,17 @@ fn fits_itself(alloc: Global, package: &Package, a: usize) -> Result<bool, Alloc
     Ok(true)
 }
 
+/// A package that defines the items, over a table whose first entry is an interface.
+fn package(alloc: Global) -> Result<Package, PackageError> {
+    let mut types = Types::new(alloc);
+    instance(alloc, &mut types, &[])?;
+    package_of(alloc, types, &ITEMS)
+}
+
 #[test]
 fn items_are_no_types_and_modules_have_numbers(rt: HostRuntime) -> Result<(), Fail> {
     let alloc = rt.alloc();
-    match package_of(alloc, Types::new(alloc), &ITEMS) {
+    match package(alloc) {
         Err(_) => assert!(rt; false, "the items make no package"),
         Ok(package) => {
             for a in 0..ITEMS.len() {
