@@ -1,7 +1,7 @@
 //! Bodies, evaluated step by step.
 
 use crate::decoder::Decoder;
-use crate::frame::{Binding, Body, Described, Frame, Next, Shape, Task};
+use crate::frame::{Binding, Body, Described, Frame, Next, Sequel, Shape, Task};
 use wac_components_bytes::{DecodeError, ErrorKind, error_at, found};
 use wac_components_types::{
     BodyKind, ComponentId, InstanceId, Item, NameId, Named, Owner, TypeDef, TypeId,
@@ -21,9 +21,8 @@ impl<'a> Decoder<'a> {
         &mut self,
         number: usize,
         body: Body,
-        next: Next,
         arguments: Option<usize>,
-        resume: Option<(usize, usize)>,
+        sequel: Sequel,
     ) -> Result<(), DecodeError> {
         if body.kind == BodyKind::Component {
             self.preamble()?;
@@ -55,8 +54,7 @@ impl<'a> Decoder<'a> {
             arguments,
             marks: body.kind != BodyKind::InstanceType && arguments.is_none(),
             is_body: true,
-            next,
-            resume,
+            sequel,
         })?;
         Ok(())
     }
@@ -76,7 +74,8 @@ impl<'a> Decoder<'a> {
             position,
         )?;
         self.reader.seek(body.start, body.end);
-        self.begin(number, body, next, arguments, Some((position, end)))
+        let resume = Some((position, end));
+        self.begin(number, body, arguments, Sequel { next, resume })
     }
 
     /// Binds a name of a body, or of an instance made of items, to an item.
@@ -191,7 +190,7 @@ impl<'a> Decoder<'a> {
 
     /// Does what is next with what a frame evaluated, which is no frame any more.
     fn deliver(&mut self, frame: Frame) -> Result<(), DecodeError> {
-        match frame.next {
+        match frame.sequel.next {
             Next::End => {
                 self.root = Some(frame.component);
                 Ok(())
@@ -222,7 +221,7 @@ impl<'a> Decoder<'a> {
                 self.close(frame.component, frame.instance)?;
             }
         }
-        if let Some((position, end)) = frame.resume {
+        if let Some((position, end)) = frame.sequel.resume {
             self.reader.seek(position, end);
         }
         self.deliver(frame)

@@ -1,7 +1,7 @@
 //! Declarators, imports and exports.
 
 use crate::decoder::Decoder;
-use crate::frame::{Binding, Described, Frame, Next, Shape, Task};
+use crate::frame::{Binding, Described, Frame, Next, Sequel, Shape, Task};
 use wac_components_bytes::{DecodeError, ErrorKind, error_at, found};
 use wac_components_types::{
     BodyKind, CoreSort, InstanceId, Item, NameId, Owner, Sort, TypeDef, TypeSort,
@@ -248,8 +248,10 @@ impl<'a> Decoder<'a> {
         copy.instance = instance;
         copy.marks = false;
         copy.is_body = false;
-        copy.next = Next::Bind(binding, Shape::Instance);
-        copy.resume = None;
+        copy.sequel = Sequel {
+            next: Next::Bind(binding, Shape::Instance),
+            resume: None,
+        };
         self.frames.push(copy)?;
         Ok(())
     }

@@ -4,7 +4,7 @@ ghost use Rattle.std.specs.List.{list_all};
 ghost use Rattle.wac_components.specs.Within as within;
 
 use crate::decoder::Decoder;
-use crate::frame::{Body, Next};
+use crate::frame::{Body, Next, Sequel};
 use crate::limits::Limits;
 use std::alloc::Global;
 use wac_components_bytes::{DecodeError, ErrorKind, error_at};
@@ -132,7 +132,11 @@ fn evaluated(decoder: &mut Decoder<'_>, length: usize) -> Result<ComponentId, De
         parent: None,
     };
     let number = decoder.add_body(body)?;
-    decoder.begin(number, body, Next::End, None, None)?;
+    let sequel = Sequel {
+        next: Next::End,
+        resume: None,
+    };
+    decoder.begin(number, body, None, sequel)?;
     decoder.run()?;
     match decoder.root {
         Some(component) => Ok(component),

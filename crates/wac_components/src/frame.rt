@@ -63,6 +63,15 @@ pub(crate) enum Next {
     Instantiate,
 }
 
+/// What follows once a body, or an instance made of items, is evaluated.
+#[derive(Clone, Copy)]
+pub(crate) struct Sequel {
+    /// What is done with it.
+    pub next: Next,
+    /// Where reading goes on, and its end there.
+    pub resume: Option<(usize, usize)>,
+}
+
 /// What is read next.
 #[derive(Clone, Copy)]
 pub(crate) enum Task {
@@ -96,9 +105,7 @@ pub(crate) struct Frame {
     pub marks: bool,
     /// Whether it is a body with index spaces, and no instance made of items.
     pub is_body: bool,
-    pub next: Next,
-    /// Where reading goes on afterwards, and its end there.
-    pub resume: Option<(usize, usize)>,
+    pub sequel: Sequel,
 }
 
 impl Frame {

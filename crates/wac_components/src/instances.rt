@@ -1,7 +1,7 @@
 //! Instances: of components, and of items.
 
 use crate::decoder::Decoder;
-use crate::frame::{Binding, Frame, Next, Task};
+use crate::frame::{Binding, Frame, Next, Sequel, Task};
 use indexmap::IndexMap;
 use wac_components_bytes::{DecodeError, ErrorKind, error_at, found};
 use wac_components_types::{Item, NameId, Sort};
@@ -67,8 +67,10 @@ impl<'a> Decoder<'a> {
         exports.instance = self.table.add_instance(self.alloc)?;
         exports.marks = false;
         exports.is_body = false;
-        exports.next = Next::Instantiate;
-        exports.resume = None;
+        exports.sequel = Sequel {
+            next: Next::Instantiate,
+            resume: None,
+        };
         self.frames.push(exports)?;
         Ok(())
     }

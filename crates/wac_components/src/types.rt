@@ -1,7 +1,7 @@
 //! Types of values and of functions, and definitions of types.
 
 use crate::decoder::Decoder;
-use crate::frame::{Body, Next};
+use crate::frame::{Body, Next, Sequel};
 use indexmap::IndexSet;
 use wac_components_bytes::{DecodeError, ErrorKind, error_at, found};
 use wac_components_types::{
@@ -233,7 +233,11 @@ impl<'a> Decoder<'a> {
             parent: Some((scope, self.scopes.lengths(scope))),
         };
         let number = self.add_body(body)?;
-        self.begin(number, body, Next::Define(number), None, None)
+        let sequel = Sequel {
+            next: Next::Define(number),
+            resume: None,
+        };
+        self.begin(number, body, None, sequel)
     }
 
     /// Gives a type of values or of functions the next index.
