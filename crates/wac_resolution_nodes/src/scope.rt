@@ -5,6 +5,7 @@ use wac_graph::Rules;
 use wac_resolution_paths::Context;
 
 /// What resolving is given besides a document: the packages it may use, and the rules of types and names.
+#[derive(Drop)]
 pub struct Given<'s, R: Rules> {
     /// The document's own package, and the packages that were supplied.
     pub context: &'s Context<'s>,
@@ -13,6 +14,7 @@ pub struct Given<'s, R: Rules> {
 }
 
 /// What an expression is resolved in: what resolving is given, and the names at root.
+#[derive(Drop)]
 pub struct Scope<'s, 'a, R: Rules> {
     /// The document's own package, and the packages that were supplied.
     pub context: &'s Context<'s>,
