@@ -1,5 +1,5 @@
 -- Constructors and methods.
-use Rattle.wac_resolution_bodies.proofs.Common.{◌≡◌, ◌∙◌, ◌+◌, ◌<◌, inl, inr, ℕ, List, [], ◌++◌, Option, Some, None, true, false, is_some, refl, sym, ap, subst, map, take, length, get_or, append-nil, Ident, Constructor, Method, ExternKind, ItemKind, ResourceId, func, Meaning, Scope, look_up, StandsFor, IsFresh, kind_of, entry_of, Fails, Names, Parts, means, entry_means, Naming, Error, duplicate_resource_method, Body, externs, with_extern, with_count, constructor_name, method_name, static_name, name_of_method, HasMethod, ParamsBroken, FuncBroken, IsSecondMethod, MethodBroken, method_kind, values_of, places_of, FuncAdded, Grows}
+use Rattle.wac_resolution_bodies.proofs.Common.{◌≡◌, ◌∙◌, ◌+◌, ◌<◌, inl, inr, ℕ, List, [], ◌++◌, Option, Some, None, true, is_some, refl, sym, ap, subst, map, take, length, get_or, append-nil, Ident, Constructor, Method, ExternKind, ItemKind, ResourceId, func, Meaning, Scope, look_up, StandsFor, IsFresh, kind_of, entry_of, Fails, Names, Parts, means, entry_means, Naming, Error, duplicate_resource_method, Body, externs, with_extern, with_count, constructor_name, method_name, static_name, name_of_method, HasMethod, ParamsBroken, FuncBroken, IsSecondMethod, MethodBroken, method_kind, values_of, places_of, FuncAdded, Grows}
 use Rattle.wac_ast_grammar.specs.Tree.{ResourceMethod}
 use Rattle.wac_graph_types.specs.declared.kind.ExternKind.TheVariants as sides
 use Rattle.wac_graph_types.specs.declared.kind.FuncKind.TheVariants as funcs
@@ -82,11 +82,6 @@ static_taken naming g side b name full x e None is found some told = absurd (cc)
 static_taken naming g side b name full x e (Some k) is found some told =
     let there = extern_stands naming g side b full k (sym found) in
     (means naming g k, inr (subst (λ (n : List ℕ). StandsFor (externs side (body_in naming g b)) n (means naming g k)) is there), told)
-
--- nothing is found under a name
-pub none_found : (side : ExternKind) (b : Lists) (name full : List ℕ) (found : Option ItemKind) → full ≡ name → found ≡ look_up full (kinds_of side b) → is_some found ≡ false → IsFresh name (kinds_of side b)
-none_found side b name full None is found none = ap (λ (n : List ℕ). look_up n (kinds_of side b)) (sym is) ∙ sym found
-none_found side b name full (Some k) is found none = absurd (cc)
 
 -- ---- in order
 
