@@ -9,7 +9,7 @@ use wac_lexer::SourceSpan;
 
 /// The text that declares the first package that a text mentions and that isn't made, with the place of the mention. It
 /// is none where one of the two texts is faulty.
-fn awaited(
+fn next_text(
     outlines: &Outlines,
     made: &IndexMap<PackageKey, Package>,
     text: usize,
@@ -34,7 +34,7 @@ fn text_in_cycle(
 ) -> Option<usize> {
     let mut text = start;
     for _ in 0..outlines.headers.len() {
-        let (other, _) = awaited(outlines, made, text)?;
+        let (other, _) = next_text(outlines, made, text)?;
         text = other;
     }
     Some(text)
@@ -49,11 +49,11 @@ fn first_in_cycle(
     let mut text = inside;
     let mut first = inside;
     for _ in 0..outlines.headers.len() {
-        let (other, _) = awaited(outlines, made, text)?;
+        let (other, _) = next_text(outlines, made, text)?;
         text = other;
         first = first.min(text);
     }
-    let (_, place) = awaited(outlines, made, first)?;
+    let (_, place) = next_text(outlines, made, first)?;
     Some((first, place))
 }
 

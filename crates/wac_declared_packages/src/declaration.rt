@@ -10,7 +10,7 @@ ghost use Rattle.wac_declared_packages.specs.Refusing.{IsDeclaration, IsUnmade};
 
 use crate::causes::{of_parts, of_resolving};
 use crate::error::DeclarationError;
-use crate::header::tested_key;
+use crate::header::key_of_declaration;
 use crate::rules::NoRules;
 use indexmap::IndexMap;
 use std::alloc::Global;
@@ -21,7 +21,7 @@ use wac_printer::Page;
 use wac_resolution::resolve_graph;
 
 /// The graph of a document.
-fn resolved(
+fn graph_of(
     page: Page<'_, '_>,
     alloc: Global,
     packages: IndexMap<PackageKey, Package>,
@@ -37,7 +37,7 @@ fn resolved(
 }
 
 /// The package of a graph, with its key. The graph's document has the package's name in that place.
-fn packaged(
+fn package_of_graph(
     alloc: Global,
     graph: &CompositionGraph,
     key: PackageKey,
@@ -58,7 +58,7 @@ fn packaged(
 }
 
 /// The package that a declaration of this key declares, with the key.
-fn keyed_package(
+fn package_with_key(
     page: Page<'_, '_>,
     alloc: Global,
     key: PackageKey,
@@ -75,8 +75,8 @@ fn keyed_package(
 {
     let Page { document } = page;
     let place = document.directive.package.span;
-    match resolved(Page { document }, alloc, packages) {
-        Ok(graph) => packaged(alloc, &graph, key, world, place),
+    match graph_of(Page { document }, alloc, packages) {
+        Ok(graph) => package_of_graph(alloc, &graph, key, world, place),
         Err(error) => Err(error),
     }
 }
@@ -108,8 +108,8 @@ pub fn declared_package(
     ensures err { IfErr result (IsRefused packages.entries (document_of page.entry)) }
 {
     let Page { document } = page;
-    match tested_key(Page { document }, alloc) {
-        Ok(key) => keyed_package(Page { document }, alloc, key, world, packages),
+    match key_of_declaration(Page { document }, alloc) {
+        Ok(key) => package_with_key(Page { document }, alloc, key, world, packages),
         Err(error) => Err(error),
     }
 }

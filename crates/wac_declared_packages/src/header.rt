@@ -98,7 +98,10 @@ fn test_declaration(page: Page<'_, '_>) -> Result<(), DeclarationError>
 }
 
 /// The key of the package that a document declares, if the document is a declaration.
-pub(crate) fn tested_key(page: Page<'_, '_>, alloc: Global) -> Result<PackageKey, DeclarationError>
+pub(crate) fn key_of_declaration(
+    page: Page<'_, '_>,
+    alloc: Global,
+) -> Result<PackageKey, DeclarationError>
     ensures key { IfOk result (λ k. key_in k ≡ declared_key (document_of page.entry)) }
     ensures fits { IfOk result (λ _. IsDeclaration (document_of page.entry)) }
     ensures err { IfErr result (IsUnread (document_of page.entry)) }
@@ -140,7 +143,7 @@ fn header_with(
 fn header_of(page: Page<'_, '_>, alloc: Global) -> Result<Header, DeclarationError> {
     let Page { document } = page;
     let place = document.directive.package.span;
-    match tested_key(Page { document }, alloc) {
+    match key_of_declaration(Page { document }, alloc) {
         Ok(key) => header_with(Page { document }, alloc, key, place),
         Err(error) => Err(error),
     }

@@ -25,8 +25,8 @@ pub(crate) fn text_at<'t>(sources: &Sources<'t>, number: usize) -> Option<&'t st
     }
 }
 
-/// The text that is stored under a key.
-fn stored<'t>(sources: &Sources<'t>, key: &PackageKey) -> Option<&'t String>
+/// The name of a world that is stored under a key.
+fn world_name<'t>(sources: &Sources<'t>, key: &PackageKey) -> Option<&'t String>
     ensures { option_map (λ s. s.now) result ≡ found key.now sources.now.worlds.now.entries }
 {
     sources.worlds.get(key)
@@ -36,7 +36,7 @@ fn stored<'t>(sources: &Sources<'t>, key: &PackageKey) -> Option<&'t String>
 pub(crate) fn world_of<'t>(sources: &Sources<'t>, key: &PackageKey) -> Option<&'t str>
     ensures { option_map (λ s. s.now) result ≡ world_chosen (key_of key.now) sources.now.worlds.now.entries }
 {
-    match stored(sources, key) {
+    match world_name(sources, key) {
         None => None,
         Some(world) => Some(world.as_str()),
     }

@@ -23,7 +23,7 @@ use wac_resolution_externs::Externs;
 use wac_resolution_nodes::Root;
 use wac_resolution_paths::Context;
 use wac_resolution_state::State;
-use wac_resolution_worlds::{interface_decl, world_decl};
+use wac_resolution_worlds::{OuterScope, interface_decl, world_decl};
 
 /// The identifier that a type statement declares.
 fn identifier<'x, 'a>(statement: &'x TypeStatement<'a>) -> &'x Ident<'a>
@@ -51,9 +51,13 @@ fn declared_kind(
         → KindBroken (context_of naming context.now) (composed naming state.old.graph root.now)
         (type_statement_of statement.now) e) }
 {
+    let outer = OuterScope {
+        context,
+        root: &root.kinds,
+    };
     match statement {
-        TypeStatement::Interface(decl) => interface_decl(state, context, &root.kinds, decl),
-        TypeStatement::World(decl) => world_decl(decl, state, context, &root.kinds),
+        TypeStatement::Interface(decl) => interface_decl(state, &outer, decl),
+        TypeStatement::World(decl) => world_decl(decl, state, &outer),
         TypeStatement::Ty(decl) => wac_resolution_types::type_decl(state, &root.kinds, decl),
     }
 }

@@ -18,7 +18,7 @@ use wac_resolution_errors::Error;
 use wac_resolution_nodes::Root;
 use wac_resolution_paths::{Context, path};
 use wac_resolution_state::{State, kind_of};
-use wac_resolution_worlds::{interface, new_func};
+use wac_resolution_worlds::{OuterScope, interface, new_func};
 
 /// The kind of a function whose type is written in place.
 fn func_kind(state: &mut State, root: &Root<'_>, func: &FuncType<'_>) -> Result<ItemKind, Error>
@@ -46,7 +46,11 @@ fn inline_kind(
     ensures err { ErrorSays result (ImportTypeBreaks context.now state.old.graph root.now
         (ImportTree.interface (inline_interface_of inline.now))) }
 {
-    match interface(state, context, &root.kinds, None, None, &inline.items) {
+    let outer = OuterScope {
+        context,
+        root: &root.kinds,
+    };
+    match interface(state, &outer, None, None, &inline.items) {
         Ok(id) => Ok(ItemKind::Instance(id)),
         Err(error) => Err(error),
     }

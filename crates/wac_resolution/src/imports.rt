@@ -9,30 +9,34 @@ ghost use Rattle.wac_resolution_bindings.specs.Statements.{Stand, StatementRun, 
 use crate::import_kind::import_kind;
 use wac_ast_worlds::ImportStatement;
 use wac_graph::Rules;
-use wac_resolution_bindings::{import_as, import_name};
+use wac_resolution_bindings::{NewImport, import_as, import_name};
 use wac_resolution_errors::Error;
 use wac_resolution_externs::Externs;
-use wac_resolution_nodes::Root;
-use wac_resolution_paths::Context;
+use wac_resolution_nodes::{Given, Root};
 use wac_resolution_state::State;
 
 /// Executes an import statement.
 pub(crate) fn import_statement<'a, R: Rules>(
     state: &mut State,
-    context: &Context<'_>,
-    rules: &R,
+    given: &Given<'_, R>,
     root: &mut Root<'a>,
     externs: &mut Externs,
     statement: &ImportStatement<'a>,
 ) -> Result<(), Error>
-    requires { Stand context.now state.old.graph root.old externs.old }
-    ensures ok { OnOk result (StatementRun context.now (rules_of R.Rules rules.now) state.old.graph state.new.graph root.old
-        root.new externs.old externs.new (StatementTree.import_statement (import_statement_of statement.now))) }
-    ensures err { ErrorSays result (λ e. Breaks context.now (rules_of R.Rules rules.now) state.old.graph root.old
-        externs.old (StatementTree.import_statement (import_statement_of statement.now)) e) }
+    requires { Stand given.now.context.now state.old.graph root.old externs.old }
+    ensures ok { OnOk result (StatementRun given.now.context.now (rules_of R.Rules given.now.rules.now) state.old.graph
+        state.new.graph root.old root.new externs.old externs.new
+        (StatementTree.import_statement (import_statement_of statement.now))) }
+    ensures err { ErrorSays result (λ e. Breaks given.now.context.now (rules_of R.Rules given.now.rules.now)
+        state.old.graph root.old externs.old (StatementTree.import_statement (import_statement_of statement.now)) e) }
 {
-    let kind = import_kind(state, context, root, &statement.ty)?;
+    let kind = import_kind(state, given.context, root, &statement.ty)?;
     let item = kind.promote();
     let text = import_name(state, statement, kind)?;
-    import_as(state, rules, root, externs, statement, text.as_str(), item)
+    let import = NewImport {
+        statement,
+        text: text.as_str(),
+        kind: item,
+    };
+    import_as(state, given.rules, root, externs, &import)
 }

@@ -11,25 +11,24 @@ use wac_ast::internals::Statements;
 use wac_graph::Rules;
 use wac_resolution_errors::Error;
 use wac_resolution_externs::Externs;
-use wac_resolution_nodes::Root;
-use wac_resolution_paths::Context;
+use wac_resolution_nodes::{Given, Root};
 use wac_resolution_state::State;
 
 /// Executes borrowed statements in order.
 pub(crate) fn carry_out<'a, R: Rules>(
     state: &mut State,
-    context: &Context<'_>,
-    rules: &R,
+    given: &Given<'_, R>,
     root: &mut Root<'a>,
     externs: &mut Externs,
     statements: Statements<'_, 'a>,
 ) -> Result<(), Error>
-    requires { Stand context.now state.old.graph root.old externs.old }
-    ensures ok { OnOk result (StatementsRun context.now (rules_of R.Rules rules.now) state.old.graph state.new.graph root.old
-        root.new externs.old externs.new (map statement_of statements.entry)) }
-    ensures err { ErrorSays result (λ e. OneBreaks context.now (rules_of R.Rules rules.now) state.old.graph root.old
-        externs.old (map statement_of statements.entry) e) }
+    requires { Stand given.now.context.now state.old.graph root.old externs.old }
+    ensures ok { OnOk result (StatementsRun given.now.context.now (rules_of R.Rules given.now.rules.now)
+        state.old.graph state.new.graph root.old root.new externs.old externs.new
+        (map statement_of statements.entry)) }
+    ensures err { ErrorSays result (λ e. OneBreaks given.now.context.now (rules_of R.Rules given.now.rules.now)
+        state.old.graph root.old externs.old (map statement_of statements.entry) e) }
 {
     let all = statements.all;
-    compose(state, context, rules, root, externs, all)
+    compose(state, given, root, externs, all)
 }

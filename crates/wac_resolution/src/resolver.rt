@@ -21,6 +21,7 @@ use wac_graph::{CompositionGraph, Package, PackageKey, Rules};
 use wac_lexer::SourceSpan;
 use wac_resolution_errors::Error;
 use wac_resolution_mentions::packages;
+use wac_resolution_nodes::Given;
 
 /// A resolver of one document.
 #[derive(Drop)]
@@ -89,10 +90,14 @@ impl<'d, 'a> AstResolver<'d, 'a> {
         let document = self.document;
         let directive = &document.directive;
         let context = context(directive, packages);
+        let given = Given {
+            context: &context,
+            rules,
+        };
         let statements = Statements {
             all: &document.statements,
         };
-        composed(alloc, &context, rules, statements, &directive.targets)
+        composed(alloc, &given, statements, &directive.targets)
     }
 
     /// The graph of the document, as `resolve` gives it in a resolution.

@@ -13,33 +13,36 @@ use wac_graph::Rules;
 use wac_resolution_bindings::{export_statement, let_statement};
 use wac_resolution_errors::Error;
 use wac_resolution_externs::Externs;
-use wac_resolution_nodes::Root;
-use wac_resolution_paths::Context;
+use wac_resolution_nodes::{Given, Root, Scope};
 use wac_resolution_state::State;
 
 /// Executes a statement.
 fn statement<'a, R: Rules>(
     state: &mut State,
-    context: &Context<'_>,
-    rules: &R,
+    given: &Given<'_, R>,
     root: &mut Root<'a>,
     externs: &mut Externs,
     statement: &Statement<'a>,
 ) -> Result<(), Error>
-    requires { Stand context.now state.old.graph root.old externs.old }
-    ensures ok { OnOk result (StatementRun context.now (rules_of R.Rules rules.now) state.old.graph state.new.graph root.old
-        root.new externs.old externs.new (statement_of statement.now)) }
-    ensures err { ErrorSays result (λ e. Breaks context.now (rules_of R.Rules rules.now) state.old.graph root.old
-        externs.old (statement_of statement.now) e) }
+    requires { Stand given.now.context.now state.old.graph root.old externs.old }
+    ensures ok { OnOk result (StatementRun given.now.context.now (rules_of R.Rules given.now.rules.now) state.old.graph
+        state.new.graph root.old root.new externs.old externs.new (statement_of statement.now)) }
+    ensures err { ErrorSays result (λ e. Breaks given.now.context.now (rules_of R.Rules given.now.rules.now)
+        state.old.graph root.old externs.old (statement_of statement.now) e) }
 {
     match statement {
-        Statement::Import(import) => {
-            import_statement(state, context, rules, root, externs, import)
+        Statement::Import(import) => import_statement(state, given, root, externs, import),
+        Statement::Ty(declaration) => {
+            type_statement(state, given.context, root, externs, declaration)
         }
-        Statement::Ty(declaration) => type_statement(state, context, root, externs, declaration),
-        Statement::Let(binding) => let_statement(state, context, rules, root, binding),
+        Statement::Let(binding) => let_statement(state, given, root, binding),
         Statement::Export(export) => {
-            export_statement(state, context, rules, root, externs, export)
+            let scope = Scope {
+                context: given.context,
+                rules: given.rules,
+                root,
+            };
+            export_statement(state, &scope, externs, export)
         }
     }
 }
@@ -47,20 +50,19 @@ fn statement<'a, R: Rules>(
 /// Executes statements in order, up to the first that breaks a rule.
 pub(crate) fn compose<'a, R: Rules>(
     state: &mut State,
-    context: &Context<'_>,
-    rules: &R,
+    given: &Given<'_, R>,
     root: &mut Root<'a>,
     externs: &mut Externs,
     statements: &[Statement<'a>],
 ) -> Result<(), Error>
-    requires { Stand context.now state.old.graph root.old externs.old }
-    ensures ok { OnOk result (StatementsRun context.now (rules_of R.Rules rules.now) state.old.graph state.new.graph root.old
-        root.new externs.old externs.new (map statement_of statements.now)) }
-    ensures err { ErrorSays result (λ e. OneBreaks context.now (rules_of R.Rules rules.now) state.old.graph root.old
-        externs.old (map statement_of statements.now) e) }
+    requires { Stand given.now.context.now state.old.graph root.old externs.old }
+    ensures ok { OnOk result (StatementsRun given.now.context.now (rules_of R.Rules given.now.rules.now)
+        state.old.graph state.new.graph root.old root.new externs.old externs.new (map statement_of statements.now)) }
+    ensures err { ErrorSays result (λ e. OneBreaks given.now.context.now (rules_of R.Rules given.now.rules.now)
+        state.old.graph root.old externs.old (map statement_of statements.now) e) }
 {
     for next in statements {
-        statement(state, context, rules, root, externs, next)?;
+        statement(state, given, root, externs, next)?;
     }
     Ok(())
 }

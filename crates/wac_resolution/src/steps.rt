@@ -15,28 +15,33 @@ use wac_ast::internals::Statements;
 use wac_graph::{CompositionGraph, Rules};
 use wac_resolution_errors::Error;
 use wac_resolution_externs::Externs;
-use wac_resolution_nodes::Root;
-use wac_resolution_paths::Context;
+use wac_resolution_nodes::{Given, Root, Scope};
 use wac_resolution_state::State;
 
 /// Executes the statements in an empty graph, and checks the target if there is one.
 fn compose_in<'a, R: Rules>(
     state: &mut State,
-    context: &Context<'_>,
-    rules: &R,
+    given: &Given<'_, R>,
     statements: Statements<'_, 'a>,
     targets: &Option<PackagePath<'_>>,
 ) -> Result<(), Error>
     requires { state.old.graph ≡ empty }
-    ensures ok { OnOk result (Composed context.now (rules_of R.Rules rules.now) (map statement_of statements.entry)
-        (option_map package_path_of targets.now) state.new.graph) }
-    ensures err { ErrorSays result (λ e. Breaks context.now (rules_of R.Rules rules.now)
+    ensures ok { OnOk result (Composed given.now.context.now (rules_of R.Rules given.now.rules.now)
+        (map statement_of statements.entry) (option_map package_path_of targets.now) state.new.graph) }
+    ensures err { ErrorSays result (λ e. Breaks given.now.context.now (rules_of R.Rules given.now.rules.now)
         (map statement_of statements.entry) (option_map package_path_of targets.now) e) }
 {
     let mut root: Root<'a> = Root::new(state.alloc);
     let mut externs = Externs::new(state.alloc);
-    match carry_out(state, context, rules, &mut root, &mut externs, statements) {
-        Ok(()) => check_targets(state, context, rules, &root, &externs, targets),
+    match carry_out(state, given, &mut root, &mut externs, statements) {
+        Ok(()) => {
+            let scope = Scope {
+                context: given.context,
+                rules: given.rules,
+                root: &root,
+            };
+            check_targets(state, &scope, &externs, targets)
+        }
         Err(error) => Err(error),
     }
 }
@@ -44,19 +49,18 @@ fn compose_in<'a, R: Rules>(
 /// The graph of statements, which the target allows if there is one.
 pub(crate) fn composed<R: Rules>(
     alloc: Global,
-    context: &Context<'_>,
-    rules: &R,
+    given: &Given<'_, R>,
     statements: Statements<'_, '_>,
     targets: &Option<PackagePath<'_>>,
 ) -> Result<CompositionGraph, Error>
-    ensures ok { IfOk result (λ g. Composed context.now (rules_of R.Rules rules.now) (map statement_of statements.entry)
-        (option_map package_path_of targets.now) g) }
-    ensures err { ErrorSays result (λ e. Breaks context.now (rules_of R.Rules rules.now)
+    ensures ok { IfOk result (λ g. Composed given.now.context.now (rules_of R.Rules given.now.rules.now)
+        (map statement_of statements.entry) (option_map package_path_of targets.now) g) }
+    ensures err { ErrorSays result (λ e. Breaks given.now.context.now (rules_of R.Rules given.now.rules.now)
         (map statement_of statements.entry) (option_map package_path_of targets.now) e) }
 {
     let graph = CompositionGraph::new(alloc);
     let mut state = State { alloc, graph };
-    match compose_in(&mut state, context, rules, statements, targets) {
+    match compose_in(&mut state, given, statements, targets) {
         Ok(()) => Ok(state.graph),
         Err(error) => Err(error),
     }

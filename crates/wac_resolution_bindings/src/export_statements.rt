@@ -10,31 +10,33 @@ use wac_ast_statements::ExportStatement;
 use wac_graph::Rules;
 use wac_resolution_errors::Error;
 use wac_resolution_expressions::expression;
-use wac_resolution_externs::{Externs, export_node};
-use wac_resolution_nodes::Root;
-use wac_resolution_paths::Context;
+use wac_resolution_externs::{ExportedNode, Externs, export_node};
+use wac_resolution_nodes::Scope;
 use wac_resolution_state::State;
 
 /// Exports what an export statement says of the node of an expression.
 pub fn export_statement<R: Rules>(
     state: &mut State,
-    context: &Context<'_>,
-    rules: &R,
-    root: &Root<'_>,
+    scope: &Scope<'_, '_, R>,
     externs: &mut Externs,
     statement: &ExportStatement<'_>,
 ) -> Result<(), Error>
-    requires { Stand context.now state.old.graph root.now externs.old }
-    ensures ok { OnOk result (StatementRun context.now (rules_of R.Rules rules.now) state.old.graph state.new.graph root.now
-        root.now externs.old externs.new (Statement.export_statement (export_statement_of statement.now))) }
-    ensures err { ErrorSays result (λ e. Breaks context.now (rules_of R.Rules rules.now) state.old.graph root.now
-        externs.old (Statement.export_statement (export_statement_of statement.now)) e) }
+    requires { Stand scope.now.context.now state.old.graph scope.now.root.now externs.old }
+    ensures ok { OnOk result (StatementRun scope.now.context.now (rules_of R.Rules scope.now.rules.now) state.old.graph
+        state.new.graph scope.now.root.now scope.now.root.now externs.old externs.new
+        (Statement.export_statement (export_statement_of statement.now))) }
+    ensures err { ErrorSays result (λ e. Breaks scope.now.context.now (rules_of R.Rules scope.now.rules.now)
+        state.old.graph scope.now.root.now externs.old
+        (Statement.export_statement (export_statement_of statement.now)) e) }
 {
     // Its contract says that the graph is sound.
     let _before = state.graph.nodes();
-    let node = expression(state, context, rules, root, &statement.expr)?;
-    let span = statement.expr.span;
-    export_node(state, rules, root, externs, node, span, &statement.options)?;
+    let node = expression(state, scope, &statement.expr)?;
+    let exported = ExportedNode {
+        node,
+        span: statement.expr.span,
+    };
+    export_node(state, scope, externs, &exported, &statement.options)?;
     // It still is.
     let _after = state.graph.nodes();
     Ok(())

@@ -15,31 +15,34 @@ use wac_ast_statements::LetStatement;
 use wac_graph::Rules;
 use wac_resolution_errors::Error;
 use wac_resolution_expressions::expression;
-use wac_resolution_nodes::Root;
-use wac_resolution_paths::Context;
+use wac_resolution_nodes::{Given, Root, Scope};
 use wac_resolution_state::State;
 
 /// Binds the identifier of a `let` to the node of its expression. Nothing is imported or exported, so it needs no
 /// places of imports and exports; its contract says that they stay those of the graph.
 pub fn let_statement<'a, R: Rules>(
     state: &mut State,
-    context: &Context<'_>,
-    rules: &R,
+    given: &Given<'_, R>,
     root: &mut Root<'a>,
     statement: &LetStatement<'a>,
 ) -> Result<(), Error>
     requires agrees { Agrees state.old.graph root.old }
-    requires supplied { AllSupplied (packages_in context.now) state.old.graph }
+    requires supplied { AllSupplied (packages_in given.now.context.now) state.old.graph }
     ensures ok { OnOk result ((x : Externs) → ArePlaced state.old.graph x
-        → StatementRun context.now (rules_of R.Rules rules.now) state.old.graph state.new.graph root.old root.new x x
-        (Statement.let_statement (let_statement_of statement.now))) }
+        → StatementRun given.now.context.now (rules_of R.Rules given.now.rules.now) state.old.graph state.new.graph
+        root.old root.new x x (Statement.let_statement (let_statement_of statement.now))) }
     ensures err { ErrorSays result (λ e. (x : Externs)
-        → Breaks context.now (rules_of R.Rules rules.now) state.old.graph root.old x
+        → Breaks given.now.context.now (rules_of R.Rules given.now.rules.now) state.old.graph root.old x
         (Statement.let_statement (let_statement_of statement.now)) e) }
 {
     // Its contract says that the graph is sound.
     let _before = state.graph.nodes();
-    let node = expression(state, context, rules, root, &statement.expr)?;
+    let scope = Scope {
+        context: given.context,
+        rules: given.rules,
+        root: &*root,
+    };
+    let node = expression(state, &scope, &statement.expr)?;
     root.bind(state, &statement.id, node)?;
     // It still is.
     let _after = state.graph.nodes();

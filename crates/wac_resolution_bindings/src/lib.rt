@@ -12,4 +12,4 @@ pub use definition::define;
 pub use export_statements::export_statement;
 pub use import_names::import_name;
 pub use let_statements::let_statement;
-pub use named_imports::import_as;
+pub use named_imports::{NewImport, import_as};

@@ -1,8 +1,8 @@
 -- The words of other crates that proofs of this crate cite, given on from one place. It declares nothing.
-pub use Rattle.std.proofs.Common.{List, None, Option, Some, [], ap, append-nil, append_assoc, arith, get_or, inl, inr, length, map, refl, rules, subst, suc, sym, take, ℕ, ◌++◌, ◌+◌, ◌<◌, ◌∙◌, ◌∷◌, ◌≡◌}
+pub use Rattle.std.proofs.Common.{List, None, Option, Some, [], ap, append-nil, append_assoc, arith, false, get_or, inl, inr, length, map, refl, rules, subst, suc, sym, take, true, ℕ, ◌++◌, ◌+◌, ◌<◌, ◌∙◌, ◌∷◌, ◌≡◌}
 pub use Rattle.std.proofs.lemmas.List.{length-map, map_push, take_all}
 pub use Rattle.std.proofs.lemmas.Result.{err_from_is_err_and}
-pub use Rattle.std.specs.Prelude.{option_map}
+pub use Rattle.std.specs.Prelude.{is_some, option_map}
 pub use Rattle.wac_ast_base.specs.Names.{ident_of}
 pub use Rattle.wac_ast_grammar.specs.Tree.{Constructor, Ident, ItemTypeDecl, Method, ResourceDecl}
 pub use Rattle.wac_ast_types.specs.Declarations.{constructor_of, enum_decl_of, flags_decl_of, method_of, named_type_of, record_decl_of, resource_decl_of, resource_method_of, type_alias_of, variant_decl_of}

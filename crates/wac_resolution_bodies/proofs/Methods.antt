@@ -1,5 +1,5 @@
 -- Constructors and methods.
-use Rattle.wac_resolution_bodies.proofs.Common.{◌≡◌, ◌∙◌, ◌+◌, ◌<◌, inl, inr, ℕ, List, [], ◌++◌, refl, sym, ap, subst, map, take, length, get_or, append-nil, Ident, Constructor, Method, ExternKind, ItemKind, ResourceId, func, Meaning, Scope, StandsFor, IsFresh, kind_of, entry_of, Fails, Names, Parts, means, entry_means, Naming, Error, duplicate_resource_method, Body, externs, with_extern, with_count, constructor_name, method_name, static_name, name_of_method, HasMethod, ParamsBroken, FuncBroken, IsSecondMethod, MethodBroken, method_kind, values_of, places_of, FuncAdded, Grows}
+use Rattle.wac_resolution_bodies.proofs.Common.{◌≡◌, ◌∙◌, ◌+◌, ◌<◌, inl, inr, ℕ, List, [], ◌++◌, Option, Some, None, true, false, is_some, refl, sym, ap, subst, map, take, length, get_or, append-nil, Ident, Constructor, Method, ExternKind, ItemKind, ResourceId, func, Meaning, Scope, look_up, StandsFor, IsFresh, kind_of, entry_of, Fails, Names, Parts, means, entry_means, Naming, Error, duplicate_resource_method, Body, externs, with_extern, with_count, constructor_name, method_name, static_name, name_of_method, HasMethod, ParamsBroken, FuncBroken, IsSecondMethod, MethodBroken, method_kind, values_of, places_of, FuncAdded, Grows}
 use Rattle.wac_ast_grammar.specs.Tree.{ResourceMethod}
 use Rattle.wac_graph_types.specs.declared.kind.ExternKind.TheVariants as sides
 use Rattle.wac_graph_types.specs.declared.kind.FuncKind.TheVariants as funcs
@@ -8,8 +8,8 @@ use Rattle.wac_graph_types.specs.declared.kind.«Type».TheVariants as types
 use Rattle.wac_graph_types.specs.declared.kind.FuncTypeId.{FuncTypeId}
 use Rattle.wac_resolution_rules.specs.Types.{IsFuncWith, IsConstructor, first_params}
 use Rattle.wac_resolution_bodies.specs.Lists.{Lists, kinds_of, with_kind}
-use Rattle.wac_resolution_bodies.specs.Bodies.{body_in, IsBody, BodyStep, IsTaken, MethodStep, MethodSteps}
-use Rattle.wac_resolution_bodies.proofs.Lists.{body_still, body_kept, body_with_kind, means_with_kind, extern_fresh}
+use Rattle.wac_resolution_bodies.specs.Bodies.{body_in, IsBody, BodyStep, MethodStep, MethodSteps}
+use Rattle.wac_resolution_bodies.proofs.Lists.{body_still, body_kept, body_with_kind, means_with_kind, extern_fresh, extern_stands}
 use Rattle.wac_resolution_bodies.proofs.Going.{items_step, items_break}
 
 -- ---- one of them
@@ -68,12 +68,25 @@ pub func_breaks : (side : ExternKind) (g : Parts) (b : Lists) (name : List ℕ) 
     → (naming : Naming) (before : List ResourceMethod) → MethodBroken side name (entry_means naming g r.0) e (body_in naming g b) before (ResourceMethod.method x)
 func_breaks side g b name r x e fresh free h naming before = inr (extern_fresh naming g side b (method_name name x.id.string) fresh, extern_fresh naming g side b (static_name name x.id.string) free, h naming)
 
--- the method's name, or that of a static one, is taken
-pub method_taken : (side : ExternKind) (b : Body) (name full : List ℕ) (x : Ident) (e : Error) → full ≡ method_name name x.string → IsTaken side b full (duplicate_resource_method x.string name x.span) e → IsSecondMethod side name b x e
-method_taken side b name full x e is h = (h.0, inl (subst (λ (n : List ℕ). StandsFor (externs side b) n h.0) is h.1), h.2)
+-- what is found under the method's name, or that of a static one
+pub method_taken : (naming : Naming) (g : Parts) (side : ExternKind) (b : Lists) (name full : List ℕ) (x : Ident) (e : Error) (found : Option ItemKind)
+    → full ≡ method_name name x.string → found ≡ look_up full (kinds_of side b) → is_some found ≡ true → e ≡ duplicate_resource_method x.string name x.span → IsSecondMethod side name (body_in naming g b) x e
+method_taken naming g side b name full x e None is found some told = absurd (cc)
+method_taken naming g side b name full x e (Some k) is found some told =
+    let there = extern_stands naming g side b full k (sym found) in
+    (means naming g k, inl (subst (λ (n : List ℕ). StandsFor (externs side (body_in naming g b)) n (means naming g k)) is there), told)
 
-pub static_taken : (side : ExternKind) (b : Body) (name full : List ℕ) (x : Ident) (e : Error) → full ≡ static_name name x.string → IsTaken side b full (duplicate_resource_method x.string name x.span) e → IsSecondMethod side name b x e
-static_taken side b name full x e is h = (h.0, inr (subst (λ (n : List ℕ). StandsFor (externs side b) n h.0) is h.1), h.2)
+pub static_taken : (naming : Naming) (g : Parts) (side : ExternKind) (b : Lists) (name full : List ℕ) (x : Ident) (e : Error) (found : Option ItemKind)
+    → full ≡ static_name name x.string → found ≡ look_up full (kinds_of side b) → is_some found ≡ true → e ≡ duplicate_resource_method x.string name x.span → IsSecondMethod side name (body_in naming g b) x e
+static_taken naming g side b name full x e None is found some told = absurd (cc)
+static_taken naming g side b name full x e (Some k) is found some told =
+    let there = extern_stands naming g side b full k (sym found) in
+    (means naming g k, inr (subst (λ (n : List ℕ). StandsFor (externs side (body_in naming g b)) n (means naming g k)) is there), told)
+
+-- nothing is found under a name
+pub none_found : (side : ExternKind) (b : Lists) (name full : List ℕ) (found : Option ItemKind) → full ≡ name → found ≡ look_up full (kinds_of side b) → is_some found ≡ false → IsFresh name (kinds_of side b)
+none_found side b name full None is found none = ap (λ (n : List ℕ). look_up n (kinds_of side b)) (sym is) ∙ sym found
+none_found side b name full (Some k) is found none = absurd (cc)
 
 -- ---- in order
 

@@ -10,8 +10,7 @@ use Rattle.wac_graph_types.specs.declared.kind.«Type».TheVariants as types
 use Rattle.wac_graph_types.specs.declared.kind.ResourceId.{ResourceId}
 use Rattle.wac_graph_types.specs.declared.entry.Entry.{Entry}
 use Rattle.wac_graph_types.specs.declared.entry.UsedType.{UsedType}
-use Rattle.wac_graph_types.specs.Scope.{Named, StandsFor, IsFresh}
-use Rattle.wac_graph_types.specs.Meaning.{Meaning}
+use Rattle.wac_graph_types.specs.Scope.{Named, IsFresh}
 use Rattle.wac_graph_types.specs.Shape.{items_mean, uses_mean}
 use Rattle.wac_graph_types.specs.Steps.{Steps}
 use Rattle.wac_graph_types.specs.Table.{Names, ItemsNamed}
@@ -19,8 +18,7 @@ use Rattle.wac_graph.specs.Graph.{Parts}
 use Rattle.wac_graph.specs.Means.{entry_means, declared_count}
 use Rattle.wac_graph.specs.Origin.{Naming}
 use Rattle.wac_graph.specs.Resources.{resource_entry}
-use Rattle.wac_resolution_errors.specs.Error.{Error}
-use Rattle.wac_resolution_rules.specs.Bodies.{Body, externs, HasMethod, with_resource, HasItem}
+use Rattle.wac_resolution_rules.specs.Bodies.{Body, HasMethod, with_resource, HasItem}
 use Rattle.wac_resolution_rules.specs.Places.{at_ident}
 use Rattle.wac_resolution_rules.specs.Spans.{item_identifier}
 use Rattle.wac_resolution_state.specs.Bindings.{values_of, places_of}
@@ -72,10 +70,6 @@ pub record BodyStep (side : ExternKind) (old new : Parts) (b c : Lists) (bound :
   pub goes : (naming : Naming) → holds naming (body_in naming old b) (body_in naming new c)
 
 -- ---- resources
-
--- the name is among the externs already, and this is its error
-abbrev pub IsTaken : ExternKind → Body → List ℕ → Error → Error → Type 0
-IsTaken side b name repeated e = (m : Meaning) × StandsFor (externs side b) name m × (e ≡ repeated)
 
 -- a method of a resource
 abbrev pub MethodStep : ExternKind → Parts → Parts → List ℕ → ResourceId → Lists → Lists → ResourceMethod → Type 0

@@ -12,10 +12,10 @@ ghost use Rattle.wac_resolution_bodies.specs.Owners.{owner_of};
 
 use crate::body::Body;
 use crate::new_name::declare;
-use crate::owner::Owner;
 use crate::resource::resource;
+use crate::section::Section;
 use wac_ast_types::{EnumDecl, FlagsDecl, ItemTypeDecl, RecordDecl, TypeAlias, VariantDecl};
-use wac_graph::{ExternKind, ItemKind, Type};
+use wac_graph::{ItemKind, Type};
 use wac_resolution_errors::Error;
 use wac_resolution_state::State;
 use wac_resolution_types::Place;
@@ -24,20 +24,19 @@ use wac_resolution_types::Place;
 fn variant<'a>(
     state: &mut State,
     body: &mut Body<'a>,
-    side: ExternKind,
-    owner: &Owner<'_>,
+    section: &Section<'_>,
     decl: &VariantDecl<'a>,
 ) -> Result<(), Error>
-    requires { IsBody state.old.graph.types side (lists_of body.old) }
-    ensures ok { OnOk result (DeclarationStep side state.old.graph state.new.graph (lists_of body.old) (lists_of body.new)
-        (ItemTree.variant (variant_decl_of decl.now))) }
+    requires { IsBody state.old.graph.types section.now.side (lists_of body.old) }
+    ensures ok { OnOk result (DeclarationStep section.now.side state.old.graph state.new.graph (lists_of body.old)
+        (lists_of body.new) (ItemTree.variant (variant_decl_of decl.now))) }
     ensures err { ErrorSays result (λ e. (naming : Naming)
-        → ItemBroken naming (owner_of owner.now) side (places_of body.old.names)
+        → ItemBroken naming (owner_of section.now.owner) section.now.side (places_of body.old.names)
         (body_of naming state.old.graph body.old) (ItemTree.variant (variant_decl_of decl.now)) e) }
 {
     let value = wac_resolution_types::variant(state, &body.names, decl)?;
     let kind = ItemKind::Ty(Type::Value(value));
-    declare(state.alloc, body, side, owner, &decl.id, kind)?;
+    declare(state.alloc, body, section, &decl.id, kind)?;
     Ok(())
 }
 
@@ -45,20 +44,19 @@ fn variant<'a>(
 fn record<'a>(
     state: &mut State,
     body: &mut Body<'a>,
-    side: ExternKind,
-    owner: &Owner<'_>,
+    section: &Section<'_>,
     decl: &RecordDecl<'a>,
 ) -> Result<(), Error>
-    requires { IsBody state.old.graph.types side (lists_of body.old) }
-    ensures ok { OnOk result (DeclarationStep side state.old.graph state.new.graph (lists_of body.old) (lists_of body.new)
-        (ItemTree.record_decl (record_decl_of decl.now))) }
+    requires { IsBody state.old.graph.types section.now.side (lists_of body.old) }
+    ensures ok { OnOk result (DeclarationStep section.now.side state.old.graph state.new.graph (lists_of body.old)
+        (lists_of body.new) (ItemTree.record_decl (record_decl_of decl.now))) }
     ensures err { ErrorSays result (λ e. (naming : Naming)
-        → ItemBroken naming (owner_of owner.now) side (places_of body.old.names)
+        → ItemBroken naming (owner_of section.now.owner) section.now.side (places_of body.old.names)
         (body_of naming state.old.graph body.old) (ItemTree.record_decl (record_decl_of decl.now)) e) }
 {
     let value = wac_resolution_types::record(state, &body.names, decl)?;
     let kind = ItemKind::Ty(Type::Value(value));
-    declare(state.alloc, body, side, owner, &decl.id, kind)?;
+    declare(state.alloc, body, section, &decl.id, kind)?;
     Ok(())
 }
 
@@ -66,20 +64,19 @@ fn record<'a>(
 fn flags<'a>(
     state: &mut State,
     body: &mut Body<'a>,
-    side: ExternKind,
-    owner: &Owner<'_>,
+    section: &Section<'_>,
     decl: &FlagsDecl<'a>,
 ) -> Result<(), Error>
-    requires { IsBody state.old.graph.types side (lists_of body.old) }
-    ensures ok { OnOk result (DeclarationStep side state.old.graph state.new.graph (lists_of body.old) (lists_of body.new)
-        (ItemTree.flags (flags_decl_of decl.now))) }
+    requires { IsBody state.old.graph.types section.now.side (lists_of body.old) }
+    ensures ok { OnOk result (DeclarationStep section.now.side state.old.graph state.new.graph (lists_of body.old)
+        (lists_of body.new) (ItemTree.flags (flags_decl_of decl.now))) }
     ensures err { ErrorSays result (λ e. (naming : Naming)
-        → ItemBroken naming (owner_of owner.now) side (places_of body.old.names)
+        → ItemBroken naming (owner_of section.now.owner) section.now.side (places_of body.old.names)
         (body_of naming state.old.graph body.old) (ItemTree.flags (flags_decl_of decl.now)) e) }
 {
     let value = wac_resolution_types::flags(state, decl)?;
     let kind = ItemKind::Ty(Type::Value(value));
-    declare(state.alloc, body, side, owner, &decl.id, kind)?;
+    declare(state.alloc, body, section, &decl.id, kind)?;
     Ok(())
 }
 
@@ -87,20 +84,19 @@ fn flags<'a>(
 fn enumeration<'a>(
     state: &mut State,
     body: &mut Body<'a>,
-    side: ExternKind,
-    owner: &Owner<'_>,
+    section: &Section<'_>,
     decl: &EnumDecl<'a>,
 ) -> Result<(), Error>
-    requires { IsBody state.old.graph.types side (lists_of body.old) }
-    ensures ok { OnOk result (DeclarationStep side state.old.graph state.new.graph (lists_of body.old) (lists_of body.new)
-        (ItemTree.enum (enum_decl_of decl.now))) }
+    requires { IsBody state.old.graph.types section.now.side (lists_of body.old) }
+    ensures ok { OnOk result (DeclarationStep section.now.side state.old.graph state.new.graph (lists_of body.old)
+        (lists_of body.new) (ItemTree.enum (enum_decl_of decl.now))) }
     ensures err { ErrorSays result (λ e. (naming : Naming)
-        → ItemBroken naming (owner_of owner.now) side (places_of body.old.names)
+        → ItemBroken naming (owner_of section.now.owner) section.now.side (places_of body.old.names)
         (body_of naming state.old.graph body.old) (ItemTree.enum (enum_decl_of decl.now)) e) }
 {
     let value = wac_resolution_types::enumeration(state, decl)?;
     let kind = ItemKind::Ty(Type::Value(value));
-    declare(state.alloc, body, side, owner, &decl.id, kind)?;
+    declare(state.alloc, body, section, &decl.id, kind)?;
     Ok(())
 }
 
@@ -108,15 +104,14 @@ fn enumeration<'a>(
 fn alias<'a>(
     state: &mut State,
     body: &mut Body<'a>,
-    side: ExternKind,
-    owner: &Owner<'_>,
+    section: &Section<'_>,
     decl: &TypeAlias<'a>,
 ) -> Result<(), Error>
-    requires { IsBody state.old.graph.types side (lists_of body.old) }
-    ensures ok { OnOk result (DeclarationStep side state.old.graph state.new.graph (lists_of body.old) (lists_of body.new)
-        (ItemTree.alias (type_alias_of decl.now))) }
+    requires { IsBody state.old.graph.types section.now.side (lists_of body.old) }
+    ensures ok { OnOk result (DeclarationStep section.now.side state.old.graph state.new.graph (lists_of body.old)
+        (lists_of body.new) (ItemTree.alias (type_alias_of decl.now))) }
     ensures err { ErrorSays result (λ e. (naming : Naming)
-        → ItemBroken naming (owner_of owner.now) side (places_of body.old.names)
+        → ItemBroken naming (owner_of section.now.owner) section.now.side (places_of body.old.names)
         (body_of naming state.old.graph body.old) (ItemTree.alias (type_alias_of decl.now)) e) }
 {
     let kind = wac_resolution_types::alias(
@@ -126,7 +121,7 @@ fn alias<'a>(
         decl.id.string,
         &decl.kind,
     )?;
-    declare(state.alloc, body, side, owner, &decl.id, kind)?;
+    declare(state.alloc, body, section, &decl.id, kind)?;
     Ok(())
 }
 
@@ -134,23 +129,22 @@ fn alias<'a>(
 pub fn item<'a>(
     state: &mut State,
     body: &mut Body<'a>,
-    side: ExternKind,
-    owner: &Owner<'_>,
+    section: &Section<'_>,
     decl: &ItemTypeDecl<'a>,
 ) -> Result<(), Error>
-    requires { IsBody state.old.graph.types side (lists_of body.old) }
-    ensures ok { OnOk result (DeclarationStep side state.old.graph state.new.graph (lists_of body.old) (lists_of body.new)
-        (item_type_decl_of decl.now)) }
+    requires { IsBody state.old.graph.types section.now.side (lists_of body.old) }
+    ensures ok { OnOk result (DeclarationStep section.now.side state.old.graph state.new.graph (lists_of body.old)
+        (lists_of body.new) (item_type_decl_of decl.now)) }
     ensures err { ErrorSays result (λ e. (naming : Naming)
-        → ItemBroken naming (owner_of owner.now) side (places_of body.old.names)
+        → ItemBroken naming (owner_of section.now.owner) section.now.side (places_of body.old.names)
         (body_of naming state.old.graph body.old) (item_type_decl_of decl.now) e) }
 {
     match decl {
-        ItemTypeDecl::Resource(decl) => resource(state, body, side, owner, decl),
-        ItemTypeDecl::Variant(decl) => variant(state, body, side, owner, decl),
-        ItemTypeDecl::Record(decl) => record(state, body, side, owner, decl),
-        ItemTypeDecl::Flags(decl) => flags(state, body, side, owner, decl),
-        ItemTypeDecl::Enum(decl) => enumeration(state, body, side, owner, decl),
-        ItemTypeDecl::Alias(decl) => alias(state, body, side, owner, decl),
+        ItemTypeDecl::Resource(decl) => resource(state, body, section, decl),
+        ItemTypeDecl::Variant(decl) => variant(state, body, section, decl),
+        ItemTypeDecl::Record(decl) => record(state, body, section, decl),
+        ItemTypeDecl::Flags(decl) => flags(state, body, section, decl),
+        ItemTypeDecl::Enum(decl) => enumeration(state, body, section, decl),
+        ItemTypeDecl::Alias(decl) => alias(state, body, section, decl),
     }
 }

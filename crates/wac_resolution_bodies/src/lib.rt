@@ -8,8 +8,10 @@ mod method_names;
 mod new_name;
 mod owner;
 mod resource;
+mod section;
 
 pub use body::Body;
 pub use items::item;
 pub use new_name::check_extern;
 pub use owner::Owner;
+pub use section::Section;

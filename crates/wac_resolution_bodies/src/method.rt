@@ -12,21 +12,31 @@ ghost use Rattle.wac_graph.specs.Graph.{Parts};
 ghost use Rattle.wac_graph.specs.Means.{entry_means};
 ghost use Rattle.wac_graph.specs.Origin.{Naming};
 ghost use Rattle.wac_resolution_errors.specs.Error.{duplicate_resource_method};
+ghost use Rattle.wac_resolution_errors.specs.Told.{told};
 ghost use Rattle.wac_resolution_rules.specs.Bodies.{constructor_name as named_constructor, method_name as named_method, static_name as named_static, name_of_method, HasMethod};
 ghost use Rattle.wac_resolution_rules.specs.BrokenBodies.{IsSecondConstructor, IsSecondMethod, MethodBroken};
 ghost use Rattle.wac_resolution_rules.specs.Errors.{ErrorSays};
 ghost use Rattle.wac_resolution_bodies.specs.Lists.{lists_of, kinds_of};
-ghost use Rattle.wac_resolution_bodies.specs.Bodies.{body_of, IsBody, IsTaken, MethodStep, MethodSteps};
+ghost use Rattle.wac_resolution_bodies.specs.Bodies.{body_of, IsBody, MethodStep, MethodSteps};
 
 use crate::body::Body;
 use crate::method_names::{constructor_name, method_name, static_name};
-use std::alloc::Global;
+use std::alloc::{AllocError, Global};
 use wac_ast_base::Ident;
 use wac_ast_types::{Constructor, Method, ResourceMethod};
 use wac_graph::{ExternKind, ItemKind, ResourceId};
 use wac_lexer::SourceSpan;
 use wac_resolution_errors::Error;
 use wac_resolution_state::State;
+
+/// A resource whose methods are taken.
+#[derive(Clone, Copy)]
+pub(crate) struct NewResource<'n> {
+    /// The name.
+    pub name: &'n str,
+    /// Its number in the graph.
+    pub id: ResourceId,
+}
 
 /// The name of the constructor of a resource that has none yet.
 fn new_constructor_name(
@@ -51,28 +61,15 @@ fn new_constructor_name(
     }
 }
 
-/// Rejects a method whose full name is taken already.
-fn check_method(
-    alloc: Global,
-    body: &Body<'_>,
-    side: ExternKind,
-    resource: &str,
-    id: &Ident<'_>,
-    full: &str,
-) -> Result<(), Error>
-    ensures ok { OnOk result (IsFresh full.now (kinds_of side (lists_of body.now))) }
-    ensures err { ErrorSays result (λ e. (naming : Naming) (g : Parts)
-        → IsTaken side (body_of naming g body.now) full.now
-        (duplicate_resource_method id.now.string.now resource.now id.now.span) e) }
+/// The error of a method of a resource that has one of its name already.
+fn second_method(alloc: Global, resource: &str, id: &Ident<'_>) -> Result<Error, AllocError>
+    ensures { IfOk result (λ e. told e ≡ duplicate_resource_method id.now.string.now resource.now id.now.span) }
 {
-    match body.find(side, full) {
-        Some(_) => Err(Error::DuplicateResourceMethod {
-            name: String::from_str(alloc, id.string)?,
-            resource: String::from_str(alloc, resource)?,
-            span: id.span,
-        }),
-        None => Ok(()),
-    }
+    Ok(Error::DuplicateResourceMethod {
+        name: String::from_str(alloc, id.string)?,
+        resource: String::from_str(alloc, resource)?,
+        span: id.span,
+    })
 }
 
 /// The full name of a method, if the resource has no method of its name yet, static or not.
@@ -81,22 +78,30 @@ fn new_method_name(
     body: &Body<'_>,
     side: ExternKind,
     resource: &str,
-    is_static: bool,
-    id: &Ident<'_>,
+    method: &Method<'_>,
 ) -> Result<String, Error>
-    ensures name { IfOk result (λ n. string_bytes n ≡ name_of_method is_static resource.now id.now.string.now) }
-    ensures method { IfOk result (λ n. IsFresh (named_method resource.now id.now.string.now)
+    ensures name { IfOk result (λ n. string_bytes n
+        ≡ name_of_method method.now.is_static resource.now method.now.id.string.now) }
+    ensures method { IfOk result (λ n. IsFresh (named_method resource.now method.now.id.string.now)
         (kinds_of side (lists_of body.now))) }
-    ensures fixed { IfOk result (λ n. IsFresh (named_static resource.now id.now.string.now)
+    ensures fixed { IfOk result (λ n. IsFresh (named_static resource.now method.now.id.string.now)
         (kinds_of side (lists_of body.now))) }
     ensures err { ErrorSays result (λ e. (naming : Naming) (g : Parts)
-        → IsSecondMethod side resource.now (body_of naming g body.now) (ident_of id.now) e) }
+        → IsSecondMethod side resource.now (body_of naming g body.now) (ident_of method.now.id) e) }
 {
-    let method = method_name(alloc, resource, id.string)?;
-    check_method(alloc, body, side, resource, id, &method)?;
-    let fixed = static_name(alloc, resource, id.string)?;
-    check_method(alloc, body, side, resource, id, &fixed)?;
-    if is_static { Ok(fixed) } else { Ok(method) }
+    let full = method_name(alloc, resource, method.id.string)?;
+    if body.find(side, &full).is_some() {
+        return Err(second_method(alloc, resource, &method.id)?);
+    }
+    let fixed = static_name(alloc, resource, method.id.string)?;
+    if body.find(side, &fixed).is_some() {
+        return Err(second_method(alloc, resource, &method.id)?);
+    }
+    if method.is_static {
+        Ok(fixed)
+    } else {
+        Ok(full)
+    }
 }
 
 /// Takes a constructor.
@@ -104,24 +109,23 @@ fn add_constructor(
     state: &mut State,
     body: &mut Body<'_>,
     side: ExternKind,
-    name: &str,
-    resource: ResourceId,
+    resource: &NewResource<'_>,
     constructor: &Constructor<'_>,
 ) -> Result<(), Error>
     requires body { IsBody state.old.graph.types side (lists_of body.old) }
-    requires resource { NamesEntry state.old.graph.types (kinds.Ty (types.Resource resource)) }
-    ensures ok { OnOk result (MethodStep side state.old.graph state.new.graph name.now resource (lists_of body.old)
-        (lists_of body.new) (MethodTree.constructor (constructor_of constructor.now))) }
+    requires resource { NamesEntry state.old.graph.types (kinds.Ty (types.Resource resource.now.id)) }
+    ensures ok { OnOk result (MethodStep side state.old.graph state.new.graph resource.now.name.now resource.now.id
+        (lists_of body.old) (lists_of body.new) (MethodTree.constructor (constructor_of constructor.now))) }
     ensures err { ErrorSays result (λ e. (naming : Naming) (before : List MethodTree)
-        → MethodBroken side name.now (entry_means naming state.old.graph resource.0) e
+        → MethodBroken side resource.now.name.now (entry_means naming state.old.graph resource.now.id.0) e
         (body_of naming state.old.graph body.old) before
         (MethodTree.constructor (constructor_of constructor.now))) }
 {
-    let full = new_constructor_name(state.alloc, body, side, name, constructor.span)?;
+    let full = new_constructor_name(state.alloc, body, side, resource.name, constructor.span)?;
     let func = wac_resolution_types::constructor(
         state,
         &body.names,
-        resource,
+        resource.id,
         &constructor.params,
     )?;
     body.add(state.alloc, side, &full, ItemKind::Func(func))?;
@@ -133,23 +137,22 @@ fn add_method(
     state: &mut State,
     body: &mut Body<'_>,
     side: ExternKind,
-    name: &str,
-    resource: ResourceId,
+    resource: &NewResource<'_>,
     method: &Method<'_>,
 ) -> Result<(), Error>
     requires body { IsBody state.old.graph.types side (lists_of body.old) }
-    requires resource { NamesEntry state.old.graph.types (kinds.Ty (types.Resource resource)) }
-    ensures ok { OnOk result (MethodStep side state.old.graph state.new.graph name.now resource (lists_of body.old)
-        (lists_of body.new) (MethodTree.method (method_of method.now))) }
+    requires resource { NamesEntry state.old.graph.types (kinds.Ty (types.Resource resource.now.id)) }
+    ensures ok { OnOk result (MethodStep side state.old.graph state.new.graph resource.now.name.now resource.now.id
+        (lists_of body.old) (lists_of body.new) (MethodTree.method (method_of method.now))) }
     ensures err { ErrorSays result (λ e. (naming : Naming) (before : List MethodTree)
-        → MethodBroken side name.now (entry_means naming state.old.graph resource.0) e
+        → MethodBroken side resource.now.name.now (entry_means naming state.old.graph resource.now.id.0) e
         (body_of naming state.old.graph body.old) before (MethodTree.method (method_of method.now))) }
 {
-    let full = new_method_name(state.alloc, body, side, name, method.is_static, &method.id)?;
+    let full = new_method_name(state.alloc, body, side, resource.name, method)?;
     let func = wac_resolution_types::method(
         state,
         &body.names,
-        resource,
+        resource.id,
         method.is_static,
         &method.ty,
     )?;
@@ -162,46 +165,44 @@ fn add_either(
     state: &mut State,
     body: &mut Body<'_>,
     side: ExternKind,
-    name: &str,
-    resource: ResourceId,
+    resource: &NewResource<'_>,
     method: &ResourceMethod<'_>,
 ) -> Result<(), Error>
     requires body { IsBody state.old.graph.types side (lists_of body.old) }
-    requires resource { NamesEntry state.old.graph.types (kinds.Ty (types.Resource resource)) }
-    ensures ok { OnOk result (MethodStep side state.old.graph state.new.graph name.now resource (lists_of body.old)
-        (lists_of body.new) (resource_method_of method.now)) }
+    requires resource { NamesEntry state.old.graph.types (kinds.Ty (types.Resource resource.now.id)) }
+    ensures ok { OnOk result (MethodStep side state.old.graph state.new.graph resource.now.name.now resource.now.id
+        (lists_of body.old) (lists_of body.new) (resource_method_of method.now)) }
     ensures err { ErrorSays result (λ e. (naming : Naming) (before : List MethodTree)
-        → MethodBroken side name.now (entry_means naming state.old.graph resource.0) e
+        → MethodBroken side resource.now.name.now (entry_means naming state.old.graph resource.now.id.0) e
         (body_of naming state.old.graph body.old) before (resource_method_of method.now)) }
 {
     match method {
         ResourceMethod::Constructor(constructor) => {
-            add_constructor(state, body, side, name, resource, constructor)
+            add_constructor(state, body, side, resource, constructor)
         }
-        ResourceMethod::Method(method) => add_method(state, body, side, name, resource, method),
+        ResourceMethod::Method(method) => add_method(state, body, side, resource, method),
     }
 }
 
 /// Takes the constructors and methods of a resource in order.
-pub fn add_methods(
+pub(crate) fn add_methods(
     state: &mut State,
     body: &mut Body<'_>,
     side: ExternKind,
-    name: &str,
-    resource: ResourceId,
+    resource: &NewResource<'_>,
     methods: &[ResourceMethod<'_>],
 ) -> Result<(), Error>
     requires body { IsBody state.old.graph.types side (lists_of body.old) }
-    requires resource { NamesEntry state.old.graph.types (kinds.Ty (types.Resource resource)) }
-    ensures ok { OnOk result (MethodSteps side state.old.graph state.new.graph name.now resource (lists_of body.old)
-        (lists_of body.new) (map resource_method_of methods.now)) }
+    requires resource { NamesEntry state.old.graph.types (kinds.Ty (types.Resource resource.now.id)) }
+    ensures ok { OnOk result (MethodSteps side state.old.graph state.new.graph resource.now.name.now resource.now.id
+        (lists_of body.old) (lists_of body.new) (map resource_method_of methods.now)) }
     ensures err { ErrorSays result (λ e. (naming : Naming)
-        → Fails (HasMethod side name.now (entry_means naming state.old.graph resource.0))
-        (MethodBroken side name.now (entry_means naming state.old.graph resource.0) e)
+        → Fails (HasMethod side resource.now.name.now (entry_means naming state.old.graph resource.now.id.0))
+        (MethodBroken side resource.now.name.now (entry_means naming state.old.graph resource.now.id.0) e)
         (body_of naming state.old.graph body.old) (map resource_method_of methods.now)) }
 {
     for method in methods {
-        add_either(state, body, side, name, resource, method)?;
+        add_either(state, body, side, resource, method)?;
     }
     Ok(())
 }

@@ -15,9 +15,10 @@ ghost use Rattle.wac_resolution_bodies.specs.Owners.{owner_of};
 
 use crate::body::Body;
 use crate::owner::Owner;
+use crate::section::Section;
 use std::alloc::{AllocError, Global};
 use wac_ast_base::Ident;
-use wac_graph::{ExternKind, ItemKind};
+use wac_graph::ItemKind;
 use wac_lexer::SourceSpan;
 use wac_resolution_errors::Error;
 use wac_resolution_state::Names;
@@ -51,21 +52,20 @@ fn copied(alloc: Global, text: &Option<&str>) -> Result<Option<String>, AllocErr
 /// The error of a name that is imported, or exported, already.
 fn conflict(
     alloc: Global,
-    owner: &Owner<'_>,
-    side: ExternKind,
+    section: &Section<'_>,
     name: &str,
     span: SourceSpan,
 ) -> Result<Error, AllocError>
-    ensures { IfOk result (λ e. told e ≡ conflict_of (owner_of owner.now) side name.now span) }
+    ensures { IfOk result (λ e. told e ≡ conflict_of (owner_of section.now.owner) section.now.side name.now span) }
 {
-    match owner {
+    match &section.owner {
         Owner::Interface(interface) => Ok(Error::DuplicateInterfaceExport {
             name: String::from_str(alloc, name)?,
             interface_name: copied(alloc, interface)?,
             span,
         }),
         Owner::World(world) => Ok(Error::DuplicateWorldItem {
-            kind: side,
+            kind: section.side,
             name: String::from_str(alloc, name)?,
             world: String::from_str(alloc, world)?,
             span,
@@ -77,17 +77,16 @@ fn conflict(
 pub fn check_extern(
     alloc: Global,
     body: &Body<'_>,
-    owner: &Owner<'_>,
-    side: ExternKind,
+    section: &Section<'_>,
     name: &str,
     span: SourceSpan,
 ) -> Result<(), Error>
-    ensures ok { OnOk result (IsFresh name.now (kinds_of side (lists_of body.now))) }
+    ensures ok { OnOk result (IsFresh name.now (kinds_of section.now.side (lists_of body.now))) }
     ensures err { ErrorSays result (λ e. (naming : Naming) (g : Parts)
-        → IsConflict (owner_of owner.now) side (body_of naming g body.now) name.now span e) }
+        → IsConflict (owner_of section.now.owner) section.now.side (body_of naming g body.now) name.now span e) }
 {
-    match body.find(side, name) {
-        Some(_) => Err(conflict(alloc, owner, side, name, span)?),
+    match body.find(section.side, name) {
+        Some(_) => Err(conflict(alloc, section, name, span)?),
         None => Ok(()),
     }
 }
@@ -96,18 +95,18 @@ pub fn check_extern(
 pub fn declare<'a>(
     alloc: Global,
     body: &mut Body<'a>,
-    side: ExternKind,
-    owner: &Owner<'_>,
+    section: &Section<'_>,
     id: &Ident<'a>,
     kind: ItemKind,
 ) -> Result<(), Error>
-    ensures ok { OnOk result (IsDeclared side (lists_of body.old) (lists_of body.new) (ident_of id.now) kind) }
+    ensures ok { OnOk result (IsDeclared section.now.side (lists_of body.old) (lists_of body.new)
+        (ident_of id.now) kind) }
     ensures err { ErrorSays result (λ e. (naming : Naming) (g : Parts)
-        → NameBroken (owner_of owner.now) side (places_of body.old.names)
+        → NameBroken (owner_of section.now.owner) section.now.side (places_of body.old.names)
         (body_of naming g body.old) (ident_of id.now) e) }
 {
     check_name(alloc, &body.names, id)?;
-    check_extern(alloc, body, owner, side, id.string, id.span)?;
-    body.bind(alloc, side, id, kind)?;
+    check_extern(alloc, body, section, id.string, id.span)?;
+    body.bind(alloc, section.side, id, kind)?;
     Ok(())
 }

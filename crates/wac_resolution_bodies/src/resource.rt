@@ -13,12 +13,12 @@ ghost use Rattle.wac_resolution_bodies.specs.Bodies.{body_of, IsBody, ResourceSt
 ghost use Rattle.wac_resolution_bodies.specs.Owners.{owner_of};
 
 use crate::body::Body;
-use crate::method::add_methods;
+use crate::method::{NewResource, add_methods};
 use crate::new_name::{check_extern, check_name};
-use crate::owner::Owner;
+use crate::section::Section;
 use wac_ast_base::Ident;
 use wac_ast_types::ResourceDecl;
-use wac_graph::{ExternKind, ItemKind, ResourceId, Type};
+use wac_graph::{ItemKind, ResourceId, Type};
 use wac_resolution_errors::Error;
 use wac_resolution_state::State;
 
@@ -26,23 +26,22 @@ use wac_resolution_state::State;
 fn declare_resource<'a>(
     state: &mut State,
     body: &mut Body<'a>,
-    side: ExternKind,
-    owner: &Owner<'_>,
+    section: &Section<'_>,
     id: &Ident<'a>,
 ) -> Result<ResourceId, Error>
-    requires { IsBody state.old.graph.types side (lists_of body.old) }
-    ensures ok { IfOk result (λ r. ResourceStep side state.old.graph state.new.graph (lists_of body.old)
-        (lists_of body.new) (ident_of id.now) r) }
+    requires { IsBody state.old.graph.types section.now.side (lists_of body.old) }
+    ensures ok { IfOk result (λ r. ResourceStep section.now.side state.old.graph state.new.graph
+        (lists_of body.old) (lists_of body.new) (ident_of id.now) r) }
     ensures err { ErrorSays result (λ e. (naming : Naming) (g : Parts)
-        → NameBroken (owner_of owner.now) side (places_of body.old.names)
+        → NameBroken (owner_of section.now.owner) section.now.side (places_of body.old.names)
         (body_of naming g body.old) (ident_of id.now) e) }
 {
     check_name(state.alloc, &body.names, id)?;
-    check_extern(state.alloc, body, owner, side, id.string, id.span)?;
+    check_extern(state.alloc, body, section, id.string, id.span)?;
     let resource = state.add_resource(id.string)?;
     body.bind(
         state.alloc,
-        side,
+        section.side,
         id,
         ItemKind::Ty(Type::Resource(resource)),
     )?;
@@ -53,18 +52,21 @@ fn declare_resource<'a>(
 pub fn resource<'a>(
     state: &mut State,
     body: &mut Body<'a>,
-    side: ExternKind,
-    owner: &Owner<'_>,
+    section: &Section<'_>,
     decl: &ResourceDecl<'a>,
 ) -> Result<(), Error>
-    requires { IsBody state.old.graph.types side (lists_of body.old) }
-    ensures ok { OnOk result (DeclarationStep side state.old.graph state.new.graph (lists_of body.old) (lists_of body.new)
-        (ItemTree.resource (resource_decl_of decl.now))) }
+    requires { IsBody state.old.graph.types section.now.side (lists_of body.old) }
+    ensures ok { OnOk result (DeclarationStep section.now.side state.old.graph state.new.graph (lists_of body.old)
+        (lists_of body.new) (ItemTree.resource (resource_decl_of decl.now))) }
     ensures err { ErrorSays result (λ e. (naming : Naming)
-        → ItemBroken naming (owner_of owner.now) side (places_of body.old.names)
+        → ItemBroken naming (owner_of section.now.owner) section.now.side (places_of body.old.names)
         (body_of naming state.old.graph body.old) (ItemTree.resource (resource_decl_of decl.now)) e) }
 {
-    let resource = declare_resource(state, body, side, owner, &decl.id)?;
-    add_methods(state, body, side, decl.id.string, resource, &decl.methods)?;
+    let id = declare_resource(state, body, section, &decl.id)?;
+    let resource = NewResource {
+        name: decl.id.string,
+        id,
+    };
+    add_methods(state, body, section.side, &resource, &decl.methods)?;
     Ok(())
 }

@@ -38,42 +38,42 @@ module _ (rules : Rules) (g : Parts) (declared : Named ℕ) (w : WorldId) (x : P
   pub misfit_wrong : (r : Option Reason) → IsFirstMisfit rules g w given name r → e ≡ misfit_of x.name name r span → AreWrong rules g declared w x args given e
   misfit_wrong None m told naming context p one same =
       let c : Composition = composition_of naming g declared in
-      inl (
-        (name, m.node),
-        span,
-        subst (λ (l : Named Meaning). ReachedAt (Fits rules l c.nodes) (given_nodes given) (name, m.node)) (sym same) (reached None m naming one),
-        subst (λ (l : Named Meaning). StandsFor (argument_places c l args) name span) (sym same) (placed None m naming one),
-        subst (λ (l : Named Meaning). IsFresh name l) (sym same) (m.against.is naming),
-        told,
-      )
+      inl (record {
+        argument = (name, m.node);
+        span = span;
+        reached = subst (λ (l : Named Meaning). ReachedAt (Fits rules l c.nodes) (given_nodes given) (name, m.node)) (sym same) (reached None m naming one);
+        place = subst (λ (l : Named Meaning). StandsFor (argument_places c l args) name span) (sym same) (placed None m naming one);
+        fresh = subst (λ (l : Named Meaning). IsFresh name l) (sym same) (m.against.is naming);
+        error = told;
+      })
   misfit_wrong (Some r) m told naming context p one same =
       let c : Composition = composition_of naming g declared in
       let u = m.against.is naming declared one in
-      inr (inl (
-        (name, m.node),
-        span,
-        u.0,
-        r,
-        subst (λ (l : Named Meaning). ReachedAt (Fits rules l c.nodes) (given_nodes given) (name, m.node)) (sym same) (reached (Some r) m naming one),
-        subst (λ (l : Named Meaning). StandsFor (argument_places c l args) name span) (sym same) (placed (Some r) m naming one),
-        subst (λ (l : Named Meaning). StandsFor l name u.0) (sym same) u.1,
-        u.2,
-        told,
-      ))
+      inr (inl (record {
+        argument = (name, m.node);
+        span = span;
+        wanted = u.0;
+        reason = r;
+        reached = subst (λ (l : Named Meaning). ReachedAt (Fits rules l c.nodes) (given_nodes given) (name, m.node)) (sym same) (reached (Some r) m naming one);
+        place = subst (λ (l : Named Meaning). StandsFor (argument_places c l args) name span) (sym same) (placed (Some r) m naming one);
+        imported = subst (λ (l : Named Meaning). StandsFor l name u.0) (sym same) u.1;
+        fails = u.2;
+        error = told;
+      }))
 
 -- an import is left out
 pub left_wrong : (rules : Rules) (g : Parts) (declared : Named ℕ) (w : WorldId) (x : PackageName) (args : Arguments) (given : Named NodeId) (e : Error) → AllFit rules g w given → IsIncomplete g w x args (given_nodes given) e → AreWrong rules g declared w x args given e
 left_wrong rules g declared w x args given e fit h naming context p one same =
     let c : Composition = composition_of naming g declared in
     let l = h.1 naming in
-    inr (inr (
-      l.0,
-      l.1,
-      subst (λ (i : Named Meaning). AllByRecursion (Fits rules i c.nodes) (given_nodes given)) (sym same) (fit.is naming declared one),
-      h.0,
-      ap (λ (i : Named Meaning). left_out i (given_nodes given)) same ∙ l.2,
-      l.3,
-    ))
+    inr (inr (record {
+      wanted = l.0;
+      others = l.1;
+      fit = subst (λ (i : Named Meaning). AllByRecursion (Fits rules i c.nodes) (given_nodes given)) (sym same) (fit.is naming declared one);
+      unfilled = h.0;
+      left = ap (λ (i : Named Meaning). left_out i (given_nodes given)) same ∙ l.2;
+      error = l.3;
+    }))
 
 -- ---- spreads
 

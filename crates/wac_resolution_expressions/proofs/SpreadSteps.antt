@@ -71,7 +71,7 @@ spread_matches_none old new root before after count x n i w e is instance p coun
     let none : (spread_from (imports_at naming old w) n.0 exports start).arguments ≡ start.arguments =
     same_length start.arguments (spread_from (imports_at naming old w) n.0 exports start).arguments (from_longer n.0 exports start (imports_at naming old w))
     (ap length (sym gave) ∙ given_length after ∙ same ∙ counted ∙ sym (given_length before)) in
-    inr (n.0, is.is, inr (entry_means naming old i.0, instance.is naming (numbers_of root.nodes), none, told))
+    inr (n.0, is.is, inr (record { instance = entry_means naming old i.0; there = instance.is naming (numbers_of root.nodes); unchanged = none; error = told }))
 
 -- ---- an argument
 

@@ -28,7 +28,7 @@ use wac_ast_expressions::NewExpr;
 use wac_graph::{ItemKind, NodeId, Reason, Rules, WorldId};
 use wac_lexer::SourceSpan;
 use wac_resolution_errors::Error;
-use wac_resolution_nodes::Root;
+use wac_resolution_nodes::Scope;
 use wac_resolution_state::State;
 
 /// What is reported of an argument that doesn't fit. Without a reason it is for no import.
@@ -60,25 +60,25 @@ fn misfitting(
 /// Rejects an argument that doesn't fit.
 fn check_fit<R: Rules>(
     state: &State,
-    rules: &R,
-    root: &Root<'_>,
+    scope: &Scope<'_, '_, R>,
     world: WorldId,
     new: &NewExpr<'_>,
     given: &IndexMap<String, NodeId>,
 ) -> Result<(), Error>
-    requires agrees { Agrees state.now.graph root.now }
+    requires agrees { Agrees state.now.graph scope.now.root.now }
     requires there { GivenThere state.now.graph (by_name given.now.entries) }
     requires world { Names state.now.graph.types (ItemKind.Component world) }
-    requires stand { StandSomewhere state.now.graph (numbers_of root.now.nodes) world
+    requires stand { StandSomewhere state.now.graph (numbers_of scope.now.root.now.nodes) world
         (arguments_from (map argument_of new.now.arguments.items)) (by_name given.now.entries) }
-    ensures ok { OnOk result (AllFit (rules_of R.Rules rules.now) state.now.graph world (by_name given.now.entries)) }
-    ensures err { ErrorSays result (λ e. AreWrong (rules_of R.Rules rules.now) state.now.graph
-        (numbers_of root.now.nodes) world (package_name_of new.now.«package»)
+    ensures ok { OnOk result (AllFit (rules_of R.Rules scope.now.rules.now) state.now.graph world
+        (by_name given.now.entries)) }
+    ensures err { ErrorSays result (λ e. AreWrong (rules_of R.Rules scope.now.rules.now) state.now.graph
+        (numbers_of scope.now.root.now.nodes) world (package_name_of new.now.«package»)
         (arguments_from (map argument_of new.now.arguments.items)) (by_name given.now.entries) e) }
 {
-    match misfit(state, rules, world, given) {
+    match misfit(state, scope.rules, world, given) {
         Some((name, reason)) => {
-            let place = place(state, root, world, &new.arguments, name);
+            let place = place(state, scope.root, world, &new.arguments, name);
             let span = place.unwrap_or(new.package.span);
             Err(misfitting(state.alloc, &new.package, name, reason, span)?)
         }
@@ -89,24 +89,23 @@ fn check_fit<R: Rules>(
 /// Rejects an argument that doesn't fit, and an import that is left out.
 fn check_arguments<R: Rules>(
     state: &State,
-    rules: &R,
-    root: &Root<'_>,
+    scope: &Scope<'_, '_, R>,
     world: WorldId,
     new: &NewExpr<'_>,
     given: &IndexMap<String, NodeId>,
 ) -> Result<(), Error>
-    requires agrees { Agrees state.now.graph root.now }
+    requires agrees { Agrees state.now.graph scope.now.root.now }
     requires there { GivenThere state.now.graph (by_name given.now.entries) }
     requires world { Names state.now.graph.types (ItemKind.Component world) }
-    requires stand { StandSomewhere state.now.graph (numbers_of root.now.nodes) world
+    requires stand { StandSomewhere state.now.graph (numbers_of scope.now.root.now.nodes) world
         (arguments_from (map argument_of new.now.arguments.items)) (by_name given.now.entries) }
-    ensures ok { OnOk result (AreRight (rules_of R.Rules rules.now) state.now.graph world
+    ensures ok { OnOk result (AreRight (rules_of R.Rules scope.now.rules.now) state.now.graph world
         (arguments_from (map argument_of new.now.arguments.items)) (by_name given.now.entries)) }
-    ensures err { ErrorSays result (λ e. AreWrong (rules_of R.Rules rules.now) state.now.graph
-        (numbers_of root.now.nodes) world (package_name_of new.now.«package»)
+    ensures err { ErrorSays result (λ e. AreWrong (rules_of R.Rules scope.now.rules.now) state.now.graph
+        (numbers_of scope.now.root.now.nodes) world (package_name_of new.now.«package»)
         (arguments_from (map argument_of new.now.arguments.items)) (by_name given.now.entries) e) }
 {
-    check_fit(state, rules, root, world, new, given)?;
+    check_fit(state, scope, world, new, given)?;
     check_complete(state, &new.package, world, &new.arguments, given)
 }
 
@@ -114,25 +113,24 @@ fn check_arguments<R: Rules>(
 #[inline(never)]
 pub fn complete<R: Rules>(
     state: &mut State,
-    rules: &R,
-    root: &Root<'_>,
+    scope: &Scope<'_, '_, R>,
     of: Loaded,
     new: &NewExpr<'_>,
     given: &mut IndexMap<String, NodeId>,
 ) -> Result<NodeId, Error>
-    requires agrees { Agrees state.old.graph root.now }
+    requires agrees { Agrees state.old.graph scope.now.root.now }
     requires loaded { IsThere state.old.graph of }
     requires there { GivenThere state.old.graph (by_name given.old.entries) }
-    requires stand { StandThemselves state.old.graph (numbers_of root.now.nodes) of.world
+    requires stand { StandThemselves state.old.graph (numbers_of scope.now.root.now.nodes) of.world
         (arguments_from (map argument_of new.now.arguments.items)) (by_name given.old.entries) }
-    ensures ok { IfOk result (λ n. Completes (rules_of R.Rules rules.now) state.old.graph state.new.graph
-        (numbers_of root.now.nodes) of (arguments_from (map argument_of new.now.arguments.items))
-        (by_name given.old.entries) n.0) }
-    ensures err { ErrorSays result (λ e. FailsToComplete (rules_of R.Rules rules.now) state.old.graph
-        (numbers_of root.now.nodes) of.world (package_name_of new.now.«package»)
+    ensures ok { IfOk result (λ n. Completes (rules_of R.Rules scope.now.rules.now)
+        state.old.graph state.new.graph (numbers_of scope.now.root.now.nodes) of
+        (arguments_from (map argument_of new.now.arguments.items)) (by_name given.old.entries) n.0) }
+    ensures err { ErrorSays result (λ e. FailsToComplete (rules_of R.Rules scope.now.rules.now) state.old.graph
+        (numbers_of scope.now.root.now.nodes) of.world (package_name_of new.now.«package»)
         (arguments_from (map argument_of new.now.arguments.items)) (by_name given.old.entries) e) }
 {
-    spreads(state, root, of.world, &new.arguments, given)?;
-    check_arguments(state, rules, root, of.world, new, given)?;
+    spreads(state, scope.root, of.world, &new.arguments, given)?;
+    check_arguments(state, scope, of.world, new, given)?;
     Ok(instantiate(state, of.id, given)?)
 }

@@ -21,27 +21,33 @@ use indexmap::IndexMap;
 use wac_ast_expressions::{Expr, InstantiationArgument, NewExpr, PrimaryExpr};
 use wac_graph::{ItemKind, NodeId, Rules, WorldId};
 use wac_resolution_errors::Error;
-use wac_resolution_nodes::{Root, accesses};
-use wac_resolution_paths::Context;
+use wac_resolution_nodes::{Scope, accesses};
 use wac_resolution_state::State;
+
+/// An argument whose turn it is.
+#[derive(Clone, Copy)]
+struct NextArgument<'x, 'a> {
+    /// The argument.
+    argument: &'x InstantiationArgument<'a>,
+    /// Whether no other comes after it.
+    is_last: bool,
+}
 
 /// The node that an expression denotes.
 #[cycle(expression)]
 pub fn expression<R: Rules>(
     state: &mut State,
-    context: &Context<'_>,
-    rules: &R,
-    root: &Root<'_>,
+    scope: &Scope<'_, '_, R>,
     expr: &Expr<'_>,
 ) -> Result<NodeId, Error>
-    requires agrees { Agrees state.old.graph root.now }
-    requires supplied { AllSupplied (packages_in context.now) state.old.graph }
-    ensures ok { IfOk result (λ n. ExprStep context.now (rules_of R.Rules rules.now) state.old.graph state.new.graph
-        (numbers_of root.now.nodes) (expr_of expr.now) n.0) }
-    ensures err { ErrorSays result (λ e. ExprBreaks context.now (rules_of R.Rules rules.now) state.old.graph
-        (numbers_of root.now.nodes) (expr_of expr.now) e) }
+    requires agrees { Agrees state.old.graph scope.now.root.now }
+    requires supplied { AllSupplied (packages_in scope.now.context.now) state.old.graph }
+    ensures ok { IfOk result (λ n. ExprStep scope.now.context.now (rules_of R.Rules scope.now.rules.now)
+        state.old.graph state.new.graph (numbers_of scope.now.root.now.nodes) (expr_of expr.now) n.0) }
+    ensures err { ErrorSays result (λ e. ExprBreaks scope.now.context.now (rules_of R.Rules scope.now.rules.now)
+        state.old.graph (numbers_of scope.now.root.now.nodes) (expr_of expr.now) e) }
 {
-    let node = primary(state, context, rules, root, &expr.primary)?;
+    let node = primary(state, scope, &expr.primary)?;
     accesses(state, node, expr.primary.span(), &expr.postfix)
 }
 
@@ -49,22 +55,20 @@ pub fn expression<R: Rules>(
 #[cycle(expression)]
 fn primary<R: Rules>(
     state: &mut State,
-    context: &Context<'_>,
-    rules: &R,
-    root: &Root<'_>,
+    scope: &Scope<'_, '_, R>,
     expr: &PrimaryExpr<'_>,
 ) -> Result<NodeId, Error>
-    requires agrees { Agrees state.old.graph root.now }
-    requires supplied { AllSupplied (packages_in context.now) state.old.graph }
-    ensures ok { IfOk result (λ n. PrimaryStep context.now (rules_of R.Rules rules.now) state.old.graph state.new.graph
-        (numbers_of root.now.nodes) (primary_expr_of expr.now) n.0) }
-    ensures err { ErrorSays result (λ e. PrimaryBreaks context.now (rules_of R.Rules rules.now) state.old.graph
-        (numbers_of root.now.nodes) (primary_expr_of expr.now) e) }
+    requires agrees { Agrees state.old.graph scope.now.root.now }
+    requires supplied { AllSupplied (packages_in scope.now.context.now) state.old.graph }
+    ensures ok { IfOk result (λ n. PrimaryStep scope.now.context.now (rules_of R.Rules scope.now.rules.now)
+        state.old.graph state.new.graph (numbers_of scope.now.root.now.nodes) (primary_expr_of expr.now) n.0) }
+    ensures err { ErrorSays result (λ e. PrimaryBreaks scope.now.context.now (rules_of R.Rules scope.now.rules.now)
+        state.old.graph (numbers_of scope.now.root.now.nodes) (primary_expr_of expr.now) e) }
 {
     match expr {
-        PrimaryExpr::New(part) => instantiation(state, context, rules, root, part),
-        PrimaryExpr::Nested(nested) => expression(state, context, rules, root, &nested.inner),
-        PrimaryExpr::Ident(id) => root.node(state.alloc, id),
+        PrimaryExpr::New(part) => instantiation(state, scope, part),
+        PrimaryExpr::Nested(nested) => expression(state, scope, &nested.inner),
+        PrimaryExpr::Ident(id) => scope.root.node(state.alloc, id),
     }
 }
 
@@ -73,58 +77,50 @@ fn primary<R: Rules>(
 #[inline(never)]
 fn instantiation<R: Rules>(
     state: &mut State,
-    context: &Context<'_>,
-    rules: &R,
-    root: &Root<'_>,
+    scope: &Scope<'_, '_, R>,
     new: &NewExpr<'_>,
 ) -> Result<NodeId, Error>
-    requires agrees { Agrees state.old.graph root.now }
-    requires supplied { AllSupplied (packages_in context.now) state.old.graph }
-    ensures ok { IfOk result (λ n. PrimaryStep context.now (rules_of R.Rules rules.now) state.old.graph state.new.graph
-        (numbers_of root.now.nodes) (new_expr_of new.now) n.0) }
-    ensures err { ErrorSays result (λ e. PrimaryBreaks context.now (rules_of R.Rules rules.now) state.old.graph
-        (numbers_of root.now.nodes) (new_expr_of new.now) e) }
+    requires agrees { Agrees state.old.graph scope.now.root.now }
+    requires supplied { AllSupplied (packages_in scope.now.context.now) state.old.graph }
+    ensures ok { IfOk result (λ n. PrimaryStep scope.now.context.now (rules_of R.Rules scope.now.rules.now)
+        state.old.graph state.new.graph (numbers_of scope.now.root.now.nodes) (new_expr_of new.now) n.0) }
+    ensures err { ErrorSays result (λ e. PrimaryBreaks scope.now.context.now (rules_of R.Rules scope.now.rules.now)
+        state.old.graph (numbers_of scope.now.root.now.nodes) (new_expr_of new.now) e) }
 {
-    let of = instantiable(state, context, &new.package)?;
+    let of = instantiable(state, scope.context, &new.package)?;
     let mut given = IndexMap::new(state.alloc);
-    arguments(
-        state,
-        context,
-        rules,
-        root,
-        of.world,
-        &new.arguments,
-        &mut given,
-    )?;
-    complete(state, rules, root, of, new, &mut given)
+    arguments(state, scope, of.world, &new.arguments, &mut given)?;
+    complete(state, scope, of, new, &mut given)
 }
 
 /// Gives the arguments that aren't spreads, in order.
 #[cycle(expression)]
 fn arguments<R: Rules>(
     state: &mut State,
-    context: &Context<'_>,
-    rules: &R,
-    root: &Root<'_>,
+    scope: &Scope<'_, '_, R>,
     world: WorldId,
     arguments: &[InstantiationArgument<'_>],
     given: &mut IndexMap<String, NodeId>,
 ) -> Result<(), Error>
-    requires agrees { Agrees state.old.graph root.now }
-    requires supplied { AllSupplied (packages_in context.now) state.old.graph }
+    requires agrees { Agrees state.old.graph scope.now.root.now }
+    requires supplied { AllSupplied (packages_in scope.now.context.now) state.old.graph }
     requires world { Names state.old.graph.types (ItemKind.Component world) }
     requires there { GivenThere state.old.graph (by_name given.old.entries) }
-    ensures ok { OnOk result (ArgumentSteps context.now (rules_of R.Rules rules.now) state.old.graph state.new.graph
-        (by_name given.old.entries) (by_name given.new.entries) (numbers_of root.now.nodes) world
-        (arguments_from (map argument_of arguments.now))) }
-    ensures err { ErrorSays result (λ e. ArgumentsBreak context.now (rules_of R.Rules rules.now) state.old.graph
-        (by_name given.old.entries) (numbers_of root.now.nodes) world
+    ensures ok { OnOk result (ArgumentSteps scope.now.context.now (rules_of R.Rules scope.now.rules.now)
+        state.old.graph state.new.graph (by_name given.old.entries) (by_name given.new.entries)
+        (numbers_of scope.now.root.now.nodes) world (arguments_from (map argument_of arguments.now))) }
+    ensures err { ErrorSays result (λ e. ArgumentsBreak scope.now.context.now (rules_of R.Rules scope.now.rules.now)
+        state.old.graph (by_name given.old.entries) (numbers_of scope.now.root.now.nodes) world
         (arguments_from (map argument_of arguments.now)) e) }
 {
     let mut left = arguments.len();
     for one in arguments {
         left -= 1;
-        argument(state, context, rules, root, world, one, left == 0, given)?;
+        let next = NextArgument {
+            argument: one,
+            is_last: left == 0,
+        };
+        argument(state, scope, world, &next, given)?;
     }
     Ok(())
 }
@@ -133,31 +129,29 @@ fn arguments<R: Rules>(
 #[cycle(expression)]
 fn argument<R: Rules>(
     state: &mut State,
-    context: &Context<'_>,
-    rules: &R,
-    root: &Root<'_>,
+    scope: &Scope<'_, '_, R>,
     world: WorldId,
-    argument: &InstantiationArgument<'_>,
-    is_last: bool,
+    next: &NextArgument<'_, '_>,
     given: &mut IndexMap<String, NodeId>,
 ) -> Result<(), Error>
-    requires agrees { Agrees state.old.graph root.now }
-    requires supplied { AllSupplied (packages_in context.now) state.old.graph }
+    requires agrees { Agrees state.old.graph scope.now.root.now }
+    requires supplied { AllSupplied (packages_in scope.now.context.now) state.old.graph }
     requires world { Names state.old.graph.types (ItemKind.Component world) }
     requires there { GivenThere state.old.graph (by_name given.old.entries) }
-    ensures ok { OnOk result (ArgumentStep context.now (rules_of R.Rules rules.now) state.old.graph state.new.graph
-        (by_name given.old.entries) (by_name given.new.entries) (numbers_of root.now.nodes) world is_last
-        (argument_of argument.now)) }
-    ensures err { ErrorSays result (λ e. ArgumentBreaks context.now (rules_of R.Rules rules.now) state.old.graph
-        (by_name given.old.entries) (numbers_of root.now.nodes) world is_last (argument_of argument.now) e) }
+    ensures ok { OnOk result (ArgumentStep scope.now.context.now (rules_of R.Rules scope.now.rules.now)
+        state.old.graph state.new.graph (by_name given.old.entries) (by_name given.new.entries)
+        (numbers_of scope.now.root.now.nodes) world next.now.is_last (argument_of next.now.argument.now)) }
+    ensures err { ErrorSays result (λ e. ArgumentBreaks scope.now.context.now (rules_of R.Rules scope.now.rules.now)
+        state.old.graph (by_name given.old.entries) (numbers_of scope.now.root.now.nodes) world next.now.is_last
+        (argument_of next.now.argument.now) e) }
 {
-    match argument {
-        InstantiationArgument::Inferred(id) => give_inferred(state, root, world, id, given),
+    match next.argument {
+        InstantiationArgument::Inferred(id) => give_inferred(state, scope.root, world, id, given),
         InstantiationArgument::Spread(_) => Ok(()),
         InstantiationArgument::Named(named) => {
-            let node = expression(state, context, rules, root, &named.expr)?;
+            let node = expression(state, scope, &named.expr)?;
             give_named(state, world, &named.name, node, given)
         }
-        InstantiationArgument::Fill(span) => check_last(is_last, *span),
+        InstantiationArgument::Fill(span) => check_last(next.is_last, *span),
     }
 }

@@ -119,19 +119,19 @@ unplaced g root name is naming = none_bound naming g root name (fresh_read (λ (
 pub conflict_is : (g : Parts) (root : Root) (name : List ℕ) (span : Span) (help : Option (List ℕ)) (k : ItemKind) (previous : Span) (word : List ℕ) (e : Error) → ((naming : Naming) → Some (means naming g k) ≡ definition_bound (composed naming g root) name)
     → StandsFor (places root) name previous → word ≡ words.described k → e ≡ export_conflict name word span previous help
     → (naming : Naming) (all : Places) → all.bound ≡ places root → IsExportConflict (composed naming g root) all name span help e
-conflict_is g root name span help k previous word e bound place is told naming all same = (
-  means naming g k,
-  previous,
-  sym (bound naming),
-  ap (look_up name) same ∙ place,
-  told ∙ ap (λ (w : List ℕ). export_conflict name w span previous help) (is ∙ sym (word_is (entry_means naming g) k)),
-)
+conflict_is g root name span help k previous word e bound place is told naming all same = record {
+  kind = means naming g k;
+  definition = previous;
+  bound = sym (bound naming);
+  place = ap (look_up name) same ∙ place;
+  error = told ∙ ap (λ (w : List ℕ). export_conflict name w span previous help) (is ∙ sym (word_is (entry_means naming g) k));
+}
 
 pub exported_already : (g : Parts) (x : Externs) (name : List ℕ) (span : Span) (help : Option (List ℕ)) (previous : Span) (e : Error) → ArePlaced g x → look_up name (exported_in x) ≡ Some previous → e ≡ duplicate_extern_name sides.Export name span previous help
     → (naming : Naming) (declared : Named ℕ) (all : Places) → all.exported ≡ exported_in x → IsExportedAlready (composition_of naming g declared) all name span help e
 exported_already g x name span help previous e placed is told naming declared all same =
     let there = stands_too name (exported_in x) g.exports previous placed.exported is in
-    (there.0, previous, there.1, ap (look_up name) same ∙ is, told)
+    record { node = there.0; previous = previous; exported = there.1; place = ap (look_up name) same ∙ is; error = told }
 
 pub unexported_yet : (g : Parts) (x : Externs) (name : List ℕ) → ArePlaced g x → look_up name (exported_in x) ≡ None → IsFresh name g.exports
 unexported_yet g x name placed is = fresh_too name (exported_in x) g.exports placed.exported is

@@ -160,12 +160,12 @@ spreads dots named old new root before after node i ys placed h u some e =
 pub no_effect : (named : List ℕ → Option Reason) (g : Parts) (root : Root) (before : Externs) (node : ℕ) (i : InterfaceId) (ys : List (String Global)) (span dots : Span) → IsInstance g node i → AreUnexported g.exports (interface_exports g.types i.0) (map string_bytes ys) → ys ≡ []
     → (naming : Naming) (x : Expr) → expr_span x ≡ span → Under named (λ s. ExportOptionsBroken s (at (composed naming g root) node) (places_in root before) (spread_export_no_effect span) x (ExportOptions.spread dots))
 no_effect named g root before node i ys span dots h u none naming x at_span s same =
-    inr (inl (
-      entry_means naming g i.0,
-      h.is naming (numbers_of root.nodes),
-      sym (open_items naming g node i ys h u) ∙ ap (map (exported_item naming g node)) none,
-      ap spread_export_no_effect (sym at_span),
-    ))
+    inr (inl (record {
+      instance = entry_means naming g i.0;
+      there = h.is naming (numbers_of root.nodes);
+      none = sym (open_items naming g node i ys h u) ∙ ap (map (exported_item naming g node)) none;
+      error = ap spread_export_no_effect (sym at_span);
+    }))
 
 pub spread_of_other : (named : List ℕ → Option Reason) (g : Parts) (root : Root) (before : Externs) (node : ℕ) (span dots : Span) (e : Error) → ((naming : Naming) (declared : Named ℕ) → IsNotInstance (composition_of naming g declared) node Operation.spread span e)
     → (naming : Naming) (x : Expr) → expr_span x ≡ span → Under named (λ s. ExportOptionsBroken s (at (composed naming g root) node) (places_in root before) e x (ExportOptions.spread dots))

@@ -32,7 +32,7 @@ is_unnamed g node span there none naming declared = go (slice_get g.nodes node) 
     go None is = absurd (none_within g.nodes node is there)
     go (Some n) is =
         let here : node_at (composition_of naming g declared) node ≡ Some (node_of naming g n) = slice_get-map (node_of naming g) g.nodes node ∙ ap (option_map (node_of naming g)) is in
-        (node_of naming g n, here, sym (ap (option_and_then unnamed_export) here) ∙ none naming declared, refl)
+        record { node = node_of naming g n; there = here; unnamed = sym (ap (option_and_then unnamed_export) here) ∙ none naming declared; error = refl }
 
 named_node : (o : Option Node) (name : List ℕ) → option_and_then unnamed_export o ≡ Some name → (n : Node) × (o ≡ Some n) × (unnamed_export n ≡ Some name)
 named_node None name h = absurd (cc h)

@@ -19,7 +19,7 @@ use wac_graph::names::find;
 use wac_graph::{ExternKind, ItemKind, NodeKind, Rules};
 use wac_lexer::SourceSpan;
 use wac_resolution_errors::Error;
-use wac_resolution_nodes::Root;
+use wac_resolution_nodes::{Root, Scope};
 use wac_resolution_state::State;
 
 /// The kind of the definition to which a name is bound at root, and where.
@@ -108,21 +108,21 @@ pub fn check_name<R: Rules>(
 /// Rejects a name under which nothing may be exported.
 pub(crate) fn check_export<R: Rules>(
     state: &State,
-    rules: &R,
-    root: &Root<'_>,
+    scope: &Scope<'_, '_, R>,
     externs: &Externs,
     name: &NewName<'_>,
 ) -> Result<(), Error>
-    requires agrees { Agrees state.now.graph root.now }
+    requires agrees { Agrees state.now.graph scope.now.root.now }
     requires placed { ArePlaced state.now.graph externs.now }
-    ensures ok { OnOk result (MayExport (R.named rules.now) state.now.graph root.now name.now.text.now) }
+    ensures ok { OnOk result (MayExport (R.named scope.now.rules.now) state.now.graph scope.now.root.now
+        name.now.text.now) }
     ensures err { ErrorSays result (λ e. (naming : Naming)
-        → Under (R.named rules.now)
-        (λ s. ExportAsBroken s (composed naming state.now.graph root.now) (places_in root.now externs.now)
-        name.now.text.now name.now.span (help_of name.now) e)) }
+        → Under (R.named scope.now.rules.now)
+        (λ s. ExportAsBroken s (composed naming state.now.graph scope.now.root.now)
+        (places_in scope.now.root.now externs.now) name.now.text.now name.now.span (help_of name.now) e)) }
 {
-    check_undefined(state, root, name)?;
+    check_undefined(state, scope.root, name)?;
     check_unexported(state, externs, name)?;
-    check_name(state.alloc, rules, ExternKind::Export, name)?;
+    check_name(state.alloc, scope.rules, ExternKind::Export, name)?;
     Ok(())
 }

@@ -16,30 +16,29 @@ use crate::externs::Externs;
 use crate::name::NewName;
 use wac_graph::{NodeId, Rules};
 use wac_resolution_errors::Error;
-use wac_resolution_nodes::{Root, alias};
+use wac_resolution_nodes::{Scope, alias};
 use wac_resolution_state::State;
 
 /// Exports a node under a name.
 pub fn export_as<R: Rules>(
     state: &mut State,
-    rules: &R,
-    root: &Root<'_>,
+    scope: &Scope<'_, '_, R>,
     externs: &mut Externs,
     name: &NewName<'_>,
     node: NodeId,
 ) -> Result<(), Error>
-    requires agrees { Agrees state.old.graph root.now }
+    requires agrees { Agrees state.old.graph scope.now.root.now }
     requires placed { ArePlaced state.old.graph externs.old }
     requires there { node.0 < length state.old.graph.nodes }
-    ensures ok { OnOk result (ExportSteps name.now.span state.old.graph state.new.graph root.now externs.old externs.new
-        (name.now.text.now ∷ [])
-        (λ naming c d. Under (R.named rules.now) (λ s. ExportsAs s c name.now.text.now node.0 d))) }
+    ensures ok { OnOk result (ExportSteps name.now.span state.old.graph state.new.graph scope.now.root.now externs.old
+        externs.new (name.now.text.now ∷ [])
+        (λ naming c d. Under (R.named scope.now.rules.now) (λ s. ExportsAs s c name.now.text.now node.0 d))) }
     ensures err { ErrorSays result (λ e. (naming : Naming)
-        → Under (R.named rules.now)
-        (λ s. ExportAsBroken s (composed naming state.old.graph root.now) (places_in root.now externs.old)
-        name.now.text.now name.now.span (help_of name.now) e)) }
+        → Under (R.named scope.now.rules.now)
+        (λ s. ExportAsBroken s (composed naming state.old.graph scope.now.root.now)
+        (places_in scope.now.root.now externs.old) name.now.text.now name.now.span (help_of name.now) e)) }
 {
-    check_export(state, rules, root, externs, name)?;
+    check_export(state, scope, externs, name)?;
     state.graph.add_export(name.text, node)?;
     externs.add_export(state.alloc, name.text, name.span)?;
     Ok(())
@@ -48,27 +47,26 @@ pub fn export_as<R: Rules>(
 /// Exports the alias of an export of an instance under a name.
 pub fn export_alias<R: Rules>(
     state: &mut State,
-    rules: &R,
-    root: &Root<'_>,
+    scope: &Scope<'_, '_, R>,
     externs: &mut Externs,
     name: &NewName<'_>,
     node: NodeId,
 ) -> Result<(), Error>
-    requires agrees { Agrees state.old.graph root.now }
+    requires agrees { Agrees state.old.graph scope.now.root.now }
     requires placed { ArePlaced state.old.graph externs.old }
     requires exported { IsSome (export_kind state.old.graph node.0 name.now.text.now) }
     ensures ok { OnOk result (IfSome (export_kind state.old.graph node.0 name.now.text.now)
-        (λ k. ExportSteps name.now.span state.old.graph state.new.graph root.now externs.old externs.new
+        (λ k. ExportSteps name.now.span state.old.graph state.new.graph scope.now.root.now externs.old externs.new
         (name.now.text.now ∷ [])
-        (λ naming c d. Under (R.named rules.now)
+        (λ naming c d. Under (R.named scope.now.rules.now)
         (λ s. ExportsOne s node.0 c (name.now.text.now, means naming state.old.graph k) d)))) }
     ensures err { ErrorSays result (λ e. IfSome (export_kind state.old.graph node.0 name.now.text.now)
-        (λ k. (naming : Naming) → Under (R.named rules.now)
-        (λ s. ExportAsBroken s (alias_at (at (composed naming state.old.graph root.now) node.0) name.now.text.now
-        (means naming state.old.graph k)).composition (places_in root.now externs.old) name.now.text.now
-        name.now.span (help_of name.now) e))) }
+        (λ k. (naming : Naming) → Under (R.named scope.now.rules.now)
+        (λ s. ExportAsBroken s (alias_at (at (composed naming state.old.graph scope.now.root.now) node.0)
+        name.now.text.now (means naming state.old.graph k)).composition (places_in scope.now.root.now externs.old)
+        name.now.text.now name.now.span (help_of name.now) e))) }
 {
     let alias = alias(state, node, name.text)?;
-    export_as(state, rules, root, externs, name, alias)?;
+    export_as(state, scope, externs, name, alias)?;
     Ok(())
 }

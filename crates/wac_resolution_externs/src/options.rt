@@ -23,7 +23,7 @@ use wac_ast_base::ExternName;
 use wac_graph::{NodeId, Rules};
 use wac_lexer::SourceSpan;
 use wac_resolution_errors::Error;
-use wac_resolution_nodes::{Root, instance_id, own_name};
+use wac_resolution_nodes::{Scope, instance_id, own_name};
 use wac_resolution_state::State;
 
 /// The name under which a node is exported without `as`: the id of its instance, else its own name.
@@ -58,21 +58,20 @@ fn unnamed_name(state: &State, node: NodeId, span: SourceSpan) -> Result<String,
 /// Exports a node without `as`. The span is that of the expression that denotes it.
 pub fn export_unnamed<R: Rules>(
     state: &mut State,
-    rules: &R,
-    root: &Root<'_>,
+    scope: &Scope<'_, '_, R>,
     externs: &mut Externs,
     node: NodeId,
     span: SourceSpan,
 ) -> Result<(), Error>
-    requires agrees { Agrees state.old.graph root.now }
+    requires agrees { Agrees state.old.graph scope.now.root.now }
     requires placed { ArePlaced state.old.graph externs.old }
     requires there { node.0 < length state.old.graph.nodes }
-    ensures ok { OnOk result (Exported span state.old.graph state.new.graph root.now externs.old externs.new
-        (λ naming c d. Under (R.named rules.now) (λ s. ExportsBy s (at c node.0) Options.none d))) }
+    ensures ok { OnOk result (Exported span state.old.graph state.new.graph scope.now.root.now externs.old externs.new
+        (λ naming c d. Under (R.named scope.now.rules.now) (λ s. ExportsBy s (at c node.0) Options.none d))) }
     ensures err { ErrorSays result (λ e. (naming : Naming) (x : Expr) → expr_span x ≡ span
-        → Under (R.named rules.now)
-        (λ s. ExportOptionsBroken s (at (composed naming state.old.graph root.now) node.0)
-        (places_in root.now externs.old) e x Options.none)) }
+        → Under (R.named scope.now.rules.now)
+        (λ s. ExportOptionsBroken s (at (composed naming state.old.graph scope.now.root.now) node.0)
+        (places_in scope.now.root.now externs.old) e x Options.none)) }
 {
     let text = unnamed_name(state, node, span)?;
     let name = NewName {
@@ -80,36 +79,35 @@ pub fn export_unnamed<R: Rules>(
         span,
         help: Some("consider using an `as` clause to use a different name"),
     };
-    export_as(state, rules, root, externs, &name, node)?;
+    export_as(state, scope, externs, &name, node)?;
     Ok(())
 }
 
 /// Exports a node under the name after `as`.
 pub fn export_renamed<R: Rules>(
     state: &mut State,
-    rules: &R,
-    root: &Root<'_>,
+    scope: &Scope<'_, '_, R>,
     externs: &mut Externs,
     node: NodeId,
     name: &ExternName<'_>,
 ) -> Result<(), Error>
-    requires agrees { Agrees state.old.graph root.now }
+    requires agrees { Agrees state.old.graph scope.now.root.now }
     requires placed { ArePlaced state.old.graph externs.old }
     requires there { node.0 < length state.old.graph.nodes }
     ensures ok { OnOk result (Exported (extern_name_span (extern_name_of name.now)) state.old.graph state.new.graph
-        root.now externs.old externs.new
-        (λ naming c d. Under (R.named rules.now)
+        scope.now.root.now externs.old externs.new
+        (λ naming c d. Under (R.named scope.now.rules.now)
         (λ s. ExportsBy s (at c node.0) (Options.rename (extern_name_of name.now)) d))) }
     ensures err { ErrorSays result (λ e. (naming : Naming) (x : Expr)
-        → Under (R.named rules.now)
-        (λ s. ExportOptionsBroken s (at (composed naming state.old.graph root.now) node.0)
-        (places_in root.now externs.old) e x (Options.rename (extern_name_of name.now)))) }
+        → Under (R.named scope.now.rules.now)
+        (λ s. ExportOptionsBroken s (at (composed naming state.old.graph scope.now.root.now) node.0)
+        (places_in scope.now.root.now externs.old) e x (Options.rename (extern_name_of name.now)))) }
 {
     let new_name = NewName {
         text: name.as_str(),
         span: name.span(),
         help: None,
     };
-    export_as(state, rules, root, externs, &new_name, node)?;
+    export_as(state, scope, externs, &new_name, node)?;
     Ok(())
 }

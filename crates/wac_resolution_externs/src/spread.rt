@@ -18,12 +18,13 @@ ghost use Rattle.wac_resolution_externs.specs.Spreads.{AreUnexported, EachExport
 use crate::export::export_alias;
 use crate::externs::Externs;
 use crate::name::NewName;
+use crate::node::ExportedNode;
 use indexmap::IndexMap;
 use std::alloc::{AllocError, Global};
 use wac_graph::{CompositionGraph, InterfaceId, ItemKind, NodeId, Rules};
 use wac_lexer::SourceSpan;
 use wac_resolution_errors::{Error, InstanceOperation};
-use wac_resolution_nodes::{Root, instance};
+use wac_resolution_nodes::{Scope, instance};
 use wac_resolution_state::State;
 
 /// The names that the graph doesn't export yet, copied.
@@ -57,65 +58,84 @@ fn unexported(state: &State, interface: InterfaceId) -> Result<Vec<String>, Allo
     }
 }
 
+/// An instance whose exports are exported, and the place of the `...`.
+#[derive(Clone, Copy)]
+struct Spread {
+    /// The instance.
+    node: NodeId,
+    /// The place of the `...`.
+    dots: SourceSpan,
+}
+
 /// Exports exports of an instance, each under its name.
 fn export_each<R: Rules>(
     state: &mut State,
-    rules: &R,
-    root: &Root<'_>,
+    scope: &Scope<'_, '_, R>,
     externs: &mut Externs,
-    node: NodeId,
-    span: SourceSpan,
+    spread: &Spread,
     names: &[String],
 ) -> Result<(), Error>
-    requires agrees { Agrees state.old.graph root.now }
+    requires agrees { Agrees state.old.graph scope.now.root.now }
     requires placed { ArePlaced state.old.graph externs.old }
-    requires exported { EachExported state.old.graph node.0 (map string_bytes names.now) }
-    ensures ok { OnOk result (ExportSteps span state.old.graph state.new.graph root.now externs.old externs.new
-        (map string_bytes names.now)
-        (λ naming c d. Under (R.named rules.now)
-        (λ s. Steps (ExportsOne s node.0) c (map (exported_item naming state.old.graph node.0) names.now) d))) }
+    requires exported { EachExported state.old.graph spread.now.node.0 (map string_bytes names.now) }
+    ensures ok { OnOk result (ExportSteps spread.now.dots state.old.graph state.new.graph scope.now.root.now externs.old
+        externs.new (map string_bytes names.now)
+        (λ naming c d. Under (R.named scope.now.rules.now)
+        (λ s. Steps (ExportsOne s spread.now.node.0) c
+        (map (exported_item naming state.old.graph spread.now.node.0) names.now) d))) }
     ensures err { ErrorSays result (λ e. (naming : Naming)
-        → Under (R.named rules.now)
-        (λ s. Fails (ExportsOne s node.0) (ExportOneBroken s (places_in root.now externs.old) span e node.0)
-        (composed naming state.old.graph root.now) (map (exported_item naming state.old.graph node.0) names.now))) }
+        → Under (R.named scope.now.rules.now)
+        (λ s. Fails (ExportsOne s spread.now.node.0)
+        (ExportOneBroken s (places_in scope.now.root.now externs.old) spread.now.dots e spread.now.node.0)
+        (composed naming state.old.graph scope.now.root.now)
+        (map (exported_item naming state.old.graph spread.now.node.0) names.now))) }
 {
     for text in names {
         let name = NewName {
             text: text.as_str(),
-            span,
+            span: spread.dots,
             help: None,
         };
-        export_alias(state, rules, root, externs, &name, node)?;
+        export_alias(state, scope, externs, &name, spread.node)?;
     }
     Ok(())
 }
 
-/// Exports each export of an instance that isn't exported yet. The first span is that of the expression that denotes
-/// the instance, the second that of the `...`.
+/// Exports each export of an instance that isn't exported yet. The span is that of the `...`.
 pub fn export_spread<R: Rules>(
     state: &mut State,
-    rules: &R,
-    root: &Root<'_>,
+    scope: &Scope<'_, '_, R>,
     externs: &mut Externs,
-    node: NodeId,
-    span: SourceSpan,
+    exported: &ExportedNode,
     dots: SourceSpan,
 ) -> Result<(), Error>
-    requires agrees { Agrees state.old.graph root.now }
+    requires agrees { Agrees state.old.graph scope.now.root.now }
     requires placed { ArePlaced state.old.graph externs.old }
-    requires there { node.0 < length state.old.graph.nodes }
-    ensures ok { OnOk result (Exported dots state.old.graph state.new.graph root.now externs.old externs.new
-        (λ naming c d. Under (R.named rules.now) (λ s. ExportsBy s (at c node.0) (Options.spread dots) d))) }
-    ensures err { ErrorSays result (λ e. (naming : Naming) (x : Expr) → expr_span x ≡ span
-        → Under (R.named rules.now)
-        (λ s. ExportOptionsBroken s (at (composed naming state.old.graph root.now) node.0)
-        (places_in root.now externs.old) e x (Options.spread dots))) }
+    requires there { exported.now.node.0 < length state.old.graph.nodes }
+    ensures ok { OnOk result (Exported dots state.old.graph state.new.graph scope.now.root.now externs.old externs.new
+        (λ naming c d. Under (R.named scope.now.rules.now)
+        (λ s. ExportsBy s (at c exported.now.node.0) (Options.spread dots) d))) }
+    ensures err { ErrorSays result (λ e. (naming : Naming) (x : Expr) → expr_span x ≡ exported.now.span
+        → Under (R.named scope.now.rules.now)
+        (λ s. ExportOptionsBroken s (at (composed naming state.old.graph scope.now.root.now) exported.now.node.0)
+        (places_in scope.now.root.now externs.old) e x (Options.spread dots))) }
 {
-    let interface = instance(state, node, InstanceOperation::Spread, span)?;
+    let interface = instance(
+        state,
+        exported.node,
+        InstanceOperation::Spread,
+        exported.span,
+    )?;
     let names = unexported(state, interface)?;
     if names.is_empty() {
-        return Err(Error::SpreadExportNoEffect { span });
+        return Err(Error::SpreadExportNoEffect {
+            span: exported.span,
+        });
     }
-    export_each(state, rules, root, externs, node, dots, &names)?;
+    let spread = Spread {
+        node: exported.node,
+        dots,
+    };
+    export_each(state, scope, externs, &spread, &names)?;
     Ok(())
 }

@@ -13,42 +13,38 @@ ghost use Rattle.wac_resolution_externs.specs.Externs.{places_in, ArePlaced, Und
 ghost use Rattle.wac_resolution_externs.specs.Exports.{Exported};
 
 use crate::externs::Externs;
+use crate::node::ExportedNode;
 use crate::options::{export_renamed, export_unnamed};
 use crate::spread::export_spread;
 use wac_ast_statements::ExportOptions;
-use wac_graph::{NodeId, Rules};
-use wac_lexer::SourceSpan;
+use wac_graph::Rules;
 use wac_resolution_errors::Error;
-use wac_resolution_nodes::Root;
+use wac_resolution_nodes::Scope;
 use wac_resolution_state::State;
 
-/// Exports what a statement says of a node. The span is that of the expression that denotes the node.
+/// Exports what a statement says of a node.
 pub fn export_node<R: Rules>(
     state: &mut State,
-    rules: &R,
-    root: &Root<'_>,
+    scope: &Scope<'_, '_, R>,
     externs: &mut Externs,
-    node: NodeId,
-    span: SourceSpan,
+    exported: &ExportedNode,
     options: &ExportOptions<'_>,
 ) -> Result<(), Error>
-    requires agrees { Agrees state.old.graph root.now }
+    requires agrees { Agrees state.old.graph scope.now.root.now }
     requires placed { ArePlaced state.old.graph externs.old }
-    requires there { node.0 < length state.old.graph.nodes }
-    ensures ok { OnOk result ((x : Expr) → expr_span x ≡ span
-        → Exported (options_span x (export_options_of options.now)) state.old.graph state.new.graph root.now externs.old
-        externs.new (λ naming c d. Under (R.named rules.now)
-        (λ s. ExportsBy s (at c node.0) (export_options_of options.now) d))) }
-    ensures err { ErrorSays result (λ e. (naming : Naming) (x : Expr) → expr_span x ≡ span
-        → Under (R.named rules.now)
-        (λ s. ExportOptionsBroken s (at (composed naming state.old.graph root.now) node.0)
-        (places_in root.now externs.old) e x (export_options_of options.now))) }
+    requires there { exported.now.node.0 < length state.old.graph.nodes }
+    ensures ok { OnOk result ((x : Expr) → expr_span x ≡ exported.now.span
+        → Exported (options_span x (export_options_of options.now)) state.old.graph state.new.graph scope.now.root.now
+        externs.old externs.new (λ naming c d. Under (R.named scope.now.rules.now)
+        (λ s. ExportsBy s (at c exported.now.node.0) (export_options_of options.now) d))) }
+    ensures err { ErrorSays result (λ e. (naming : Naming) (x : Expr) → expr_span x ≡ exported.now.span
+        → Under (R.named scope.now.rules.now)
+        (λ s. ExportOptionsBroken s (at (composed naming state.old.graph scope.now.root.now) exported.now.node.0)
+        (places_in scope.now.root.now externs.old) e x (export_options_of options.now))) }
 {
     match options {
-        ExportOptions::None => export_unnamed(state, rules, root, externs, node, span),
-        ExportOptions::Spread(dots) => {
-            export_spread(state, rules, root, externs, node, span, *dots)
-        }
-        ExportOptions::Rename(name) => export_renamed(state, rules, root, externs, node, name),
+        ExportOptions::None => export_unnamed(state, scope, externs, exported.node, exported.span),
+        ExportOptions::Spread(dots) => export_spread(state, scope, externs, exported, *dots),
+        ExportOptions::Rename(name) => export_renamed(state, scope, externs, exported.node, name),
     }
 }

@@ -17,7 +17,7 @@ use indexmap::IndexMap;
 use std::alloc::Global;
 use wac_ast_uses::{WorldInclude, WorldIncludeItem};
 use wac_graph::names::find;
-use wac_graph::{ExternKind, ItemKind, Type, WorldId};
+use wac_graph::{CompositionGraph, ExternKind, ItemKind, Type, WorldId};
 use wac_lexer::SourceSpan;
 use wac_resolution_errors::Error;
 
@@ -30,6 +30,8 @@ pub struct Inclusion<'x, 'a> {
     pub include: &'x WorldInclude<'a>,
     /// The name of the world that it is in.
     pub world: &'x str,
+    /// The graph of the included world.
+    pub graph: &'x CompositionGraph,
 }
 
 impl<'x, 'a> Inclusion<'x, 'a> {

@@ -22,8 +22,17 @@ use crate::inclusion::Inclusion;
 use crate::renamed::{add_missing, add_renamed, has_colon};
 use indexmap::IndexMap;
 use wac_ast_uses::WorldIncludeItem;
-use wac_graph::{CompositionGraph, ExternKind, ItemKind, WorldId};
+use wac_graph::{ExternKind, ItemKind, WorldId};
 use wac_resolution_errors::Error;
+
+/// An import or an export of an included world.
+#[derive(Clone, Copy)]
+struct Extern<'n> {
+    /// The name.
+    name: &'n str,
+    /// What it denotes.
+    kind: ItemKind,
+}
 
 impl<'x, 'a> Inclusion<'x, 'a> {
     /// Takes a name.
@@ -32,24 +41,23 @@ impl<'x, 'a> Inclusion<'x, 'a> {
         side: ExternKind,
         entries: &mut IndexMap<String, &'x WorldIncludeItem<'a>>,
         there: &mut IndexMap<String, ItemKind>,
-        name: &str,
-        kind: ItemKind,
+        taken: &Extern<'_>,
     ) -> Result<(), Error>
         requires { AreOf (clause_of self.now) (by_name entries.old.entries) }
         ensures ok { OnOk result (NameTaken (clause_of self.now) (by_name entries.old.entries)
             (by_name entries.new.entries) (by_name there.old.entries)
-            (by_name there.new.entries) (name.now, kind)) }
+            (by_name there.new.entries) (taken.now.name.now, taken.now.kind)) }
         ensures err { ErrorSays result (λ e. (naming : Naming) (g : Parts) (before : List (List ℕ × Meaning))
             → IsIncludeConflict (tree_of self.now) self.now.world.now side e
             (taking_of naming g (by_name entries.old.entries) (by_name there.old.entries)) before
-            (name.now, means naming g kind)) }
+            (taken.now.name.now, means naming g taken.now.kind)) }
     {
-        if has_colon(name) {
-            add_missing(self.alloc, there, name, kind)?;
+        if has_colon(taken.name) {
+            add_missing(self.alloc, there, taken.name, taken.kind)?;
             return Ok(());
         }
-        self.check_taken(side, entries, there, name)?;
-        add_renamed(self.alloc, entries, there, name, kind)?;
+        self.check_taken(side, entries, there, taken.name)?;
+        add_renamed(self.alloc, entries, there, taken.name, taken.kind)?;
         Ok(())
     }
 
@@ -71,7 +79,11 @@ impl<'x, 'a> Inclusion<'x, 'a> {
             (items_mean (entry_means naming g) (by_name names.now.entries))) }
     {
         for (name, kind) in names.iter() {
-            self.take_name(side, entries, there, name.as_str(), *kind)?;
+            let taken = Extern {
+                name: name.as_str(),
+                kind: *kind,
+            };
+            self.take_name(side, entries, there, &taken)?;
         }
         Ok(())
     }
@@ -79,7 +91,6 @@ impl<'x, 'a> Inclusion<'x, 'a> {
     /// Takes what a world imports.
     fn take_imports(
         &self,
-        graph: &CompositionGraph,
         world: WorldId,
         entries: &mut IndexMap<String, &'x WorldIncludeItem<'a>>,
         imports: &mut IndexMap<String, ItemKind>,
@@ -87,13 +98,13 @@ impl<'x, 'a> Inclusion<'x, 'a> {
         requires { AreOf (clause_of self.now) (by_name entries.old.entries) }
         ensures ok { OnOk result (NamesTaken (clause_of self.now) (by_name entries.old.entries)
             (by_name entries.new.entries) (by_name imports.old.entries) (by_name imports.new.entries)
-            (world_imports graph.now.types world.0)) }
+            (world_imports self.now.graph.now.types world.0)) }
         ensures err { ErrorSays result (λ e. (naming : Naming) (g : Parts)
             → Fails Takes (IsIncludeConflict (tree_of self.now) self.now.world.now sides.Import e)
             (taking_of naming g (by_name entries.old.entries) (by_name imports.old.entries))
-            (items_mean (entry_means naming g) (world_imports graph.now.types world.0))) }
+            (items_mean (entry_means naming g) (world_imports self.now.graph.now.types world.0))) }
     {
-        match graph.types().imports(world) {
+        match self.graph.types().imports(world) {
             Some(names) => self.take_names(ExternKind::Import, entries, imports, names),
             None => Ok(()),
         }
@@ -102,7 +113,6 @@ impl<'x, 'a> Inclusion<'x, 'a> {
     /// Takes what a world exports.
     fn take_exports(
         &self,
-        graph: &CompositionGraph,
         world: WorldId,
         entries: &mut IndexMap<String, &'x WorldIncludeItem<'a>>,
         exports: &mut IndexMap<String, ItemKind>,
@@ -110,13 +120,13 @@ impl<'x, 'a> Inclusion<'x, 'a> {
         requires { AreOf (clause_of self.now) (by_name entries.old.entries) }
         ensures ok { OnOk result (NamesTaken (clause_of self.now) (by_name entries.old.entries)
             (by_name entries.new.entries) (by_name exports.old.entries) (by_name exports.new.entries)
-            (world_exports graph.now.types world.0)) }
+            (world_exports self.now.graph.now.types world.0)) }
         ensures err { ErrorSays result (λ e. (naming : Naming) (g : Parts)
             → Fails Takes (IsIncludeConflict (tree_of self.now) self.now.world.now sides.Export e)
             (taking_of naming g (by_name entries.old.entries) (by_name exports.old.entries))
-            (items_mean (entry_means naming g) (world_exports graph.now.types world.0))) }
+            (items_mean (entry_means naming g) (world_exports self.now.graph.now.types world.0))) }
     {
-        match graph.types().exports(ItemKind::Component(world)) {
+        match self.graph.types().exports(ItemKind::Component(world)) {
             Some(names) => self.take_names(ExternKind::Export, entries, exports, names),
             None => Ok(()),
         }
@@ -125,27 +135,26 @@ impl<'x, 'a> Inclusion<'x, 'a> {
     /// Takes what a world imports and exports, until no entry is left over.
     fn take_world(
         &self,
-        graph: &CompositionGraph,
         world: WorldId,
         entries: IndexMap<String, &'x WorldIncludeItem<'a>>,
         imports: &mut IndexMap<String, ItemKind>,
         exports: &mut IndexMap<String, ItemKind>,
     ) -> Result<(), Error>
-        requires world { Names graph.now.types (kinds.Component world) }
+        requires world { Names self.now.graph.now.types (kinds.Component world) }
         requires of_clause { AreOf (clause_of self.now) (by_name entries.entries) }
-        ensures ok { OnOk result (WorldTaken graph.now (entries_of (by_name entries.entry.entries)) world
+        ensures ok { OnOk result (WorldTaken self.now.graph.now (entries_of (by_name entries.entry.entries)) world
             (by_name imports.old.entries) (by_name exports.old.entries) (by_name imports.new.entries)
             (by_name exports.new.entries)) }
         ensures err { ErrorSays result (λ e. (naming : Naming) (b : Body)
             → TakingBroken (tree_of self.now) self.now.world.now (entries_of (by_name entries.entry.entries))
-            (entry_means naming graph.now world.0)
-            (with_both naming graph.now b (by_name imports.old.entries) (by_name exports.old.entries)) e) }
+            (entry_means naming self.now.graph.now world.0)
+            (with_both naming self.now.graph.now b (by_name imports.old.entries) (by_name exports.old.entries)) e) }
     {
         let mut left = entries;
         // Its contract says that the table is sound, and what its entries mean.
-        let _types = graph.types();
-        self.take_imports(graph, world, &mut left, imports)?;
-        self.take_exports(graph, world, &mut left, exports)?;
+        let _types = self.graph.types();
+        self.take_imports(world, &mut left, imports)?;
+        self.take_exports(world, &mut left, exports)?;
         self.check_left(&left)?;
         Ok(())
     }
@@ -153,26 +162,25 @@ impl<'x, 'a> Inclusion<'x, 'a> {
     /// Adds to imports and exports what including a kind adds: it is a world or component.
     pub fn take(
         &self,
-        graph: &CompositionGraph,
         kind: ItemKind,
         entries: IndexMap<String, &'x WorldIncludeItem<'a>>,
         imports: &mut IndexMap<String, ItemKind>,
         exports: &mut IndexMap<String, ItemKind>,
     ) -> Result<(), Error>
-        requires kind { Names graph.now.types kind }
+        requires kind { Names self.now.graph.now.types kind }
         requires of_clause { AreOf (clause_of self.now) (by_name entries.entries) }
-        ensures ok { OnOk result (IsIncluded graph.now (entries_of (by_name entries.entry.entries)) kind
+        ensures ok { OnOk result (IsIncluded self.now.graph.now (entries_of (by_name entries.entry.entries)) kind
             (by_name imports.old.entries) (by_name exports.old.entries) (by_name imports.new.entries)
             (by_name exports.new.entries)) }
         ensures err { ErrorSays result (λ e. (naming : Naming) (b : Body)
-            → IsNoWorld (means naming graph.now kind) (tree_of self.now).world e
-            ⊎ (IsA is_world_form (means naming graph.now kind)
+            → IsNoWorld (means naming self.now.graph.now kind) (tree_of self.now).world e
+            ⊎ (IsA is_world_form (means naming self.now.graph.now kind)
             × TakingBroken (tree_of self.now) self.now.world.now (entries_of (by_name entries.entry.entries))
-            (entry_of (means naming graph.now kind))
-            (with_both naming graph.now b (by_name imports.old.entries) (by_name exports.old.entries)) e)) }
+            (entry_of (means naming self.now.graph.now kind))
+            (with_both naming self.now.graph.now b (by_name imports.old.entries) (by_name exports.old.entries)) e)) }
     {
         let world = self.world_of(kind)?;
-        self.take_world(graph, world, entries, imports, exports)?;
+        self.take_world(world, entries, imports, exports)?;
         Ok(())
     }
 }

@@ -70,12 +70,12 @@ name_meant g node i p name h is naming = is (entry_means naming g) ∙ ap (acces
 pub not_exported : (g : Parts) (node : ℕ) (i : InterfaceId) (p : PostfixExpr) (name : List ℕ) → IsInstance g node i → Means g i p name → export_kind g node name ≡ None
     → (naming : Naming) (declared : Named ℕ) → IsNotExported (at (composition_of naming g declared) node) p (missing_instance_export name (postfix_span p))
 not_exported g node i p name h is none naming declared =
-    let same : name ≡ accessed p (exports_of (entry_means naming g i.0)) = name_meant g node i p name h is naming in (
-      entry_means naming g i.0,
-      h.is naming declared,
-      subst (λ (l : List ℕ). IsFresh l (exports_of (entry_means naming g i.0))) same (export_meant g node i name h naming ∙ ap (option_map (means naming g)) none),
-      ap (λ (l : List ℕ). missing_instance_export l (postfix_span p)) same,
-    )
+    let same : name ≡ accessed p (exports_of (entry_means naming g i.0)) = name_meant g node i p name h is naming in record {
+      instance = entry_means naming g i.0;
+      there = h.is naming declared;
+      fresh = subst (λ (l : List ℕ). IsFresh l (exports_of (entry_means naming g i.0))) same (export_meant g node i name h naming ∙ ap (option_map (means naming g)) none);
+      error = ap (λ (l : List ℕ). missing_instance_export l (postfix_span p)) same;
+    }
 
 pub access_goes : (old new : Parts) (node : ℕ) (i : InterfaceId) (p : PostfixExpr) (name : List ℕ) (n : ℕ) → IsInstance old node i → Means old i p name → IsSome (export_kind old node name)
     → IfSome (export_kind old node name) (λ k. AliasStep old new node name k n) → AccessStep old new node p n

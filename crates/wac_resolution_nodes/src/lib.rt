@@ -6,8 +6,10 @@ mod find;
 mod node;
 mod postfix;
 mod root;
+mod scope;
 
 pub use find::find_name;
 pub use node::{instance, instance_id, name_node, own_name};
 pub use postfix::{access, accesses, alias};
 pub use root::Root;
+pub use scope::{Given, Scope};

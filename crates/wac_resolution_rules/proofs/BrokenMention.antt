@@ -111,11 +111,40 @@ allowed_agree g ps qs c w h = λ i. AllByRecursion (ImportAllowed g w) (imports 
 
 target_world_breaks : (g : Given) (ps qs : Packages) (c : Composition) (p : Places) (e : Error) (path : PackagePath) (w : Meaning) → SameAtNodes ps qs c
     → TargetWorldBroken (given_over g ps) c p e path w → TargetWorldBroken (given_over g qs) c p e path w
-target_world_breaks g ps qs c p e path w h (inl (x, reached, denied, error)) = inl (x, along (reached_agree g ps qs c p w x h) reached, denied, error)
-target_world_breaks g ps qs c p e path w h (inr (inl (x, k, r, reached, found, against, error))) = inr (inl (x, k, r, along (reached_agree g ps qs c p w x h) reached, found, against, error))
-target_world_breaks g ps qs c p e path w h (inr (inr (inl (x, all, reached, fresh, error)))) = inr (inr (inl (x, along (allowed_agree g ps qs c w h) all, reached, fresh, error)))
-target_world_breaks g ps qs c p e path w h (inr (inr (inr (x, node, r, span, all, reached, exported, against, place, error)))) =
-    inr (inr (inr (x, node, r, span, along (allowed_agree g ps qs c w h) all, reached, exported, against, place, error)))
+target_world_breaks g ps qs c p e path w h (inl b) = inl (record {
+  imported = b.imported;
+  reached = along (reached_agree g ps qs c p w b.imported h) b.reached;
+  absent = b.absent;
+  error = b.error;
+})
+target_world_breaks g ps qs c p e path w h (inr (inl b)) = inr (inl (record {
+  imported = b.imported;
+  kind = b.kind;
+  reason = b.reason;
+  reached = along (reached_agree g ps qs c p w b.imported h) b.reached;
+  there = b.there;
+  fails = b.fails;
+  error = b.error;
+}))
+target_world_breaks g ps qs c p e path w h (inr (inr (inl b))) = inr (inr (inl (record {
+  wanted = b.wanted;
+  fit = along (allowed_agree g ps qs c w h) b.fit;
+  reached = b.reached;
+  fresh = b.fresh;
+  error = b.error;
+})))
+target_world_breaks g ps qs c p e path w h (inr (inr (inr b))) = inr (inr (inr (record {
+  wanted = b.wanted;
+  node = b.node;
+  reason = b.reason;
+  span = b.span;
+  fit = along (allowed_agree g ps qs c w h) b.fit;
+  reached = b.reached;
+  exported = b.exported;
+  fails = b.fails;
+  place = b.place;
+  error = b.error;
+})))
 
 -- a target breaks the rules that it breaks with other packages that agree on what it and the nodes mention
 target_breaks : (g : Given) (ps qs : Packages) (c : Composition) (places : Places) (e : Error) (path : PackagePath) → Agree ps qs (path_mentions g.context.own path) → SameAtNodes ps qs c

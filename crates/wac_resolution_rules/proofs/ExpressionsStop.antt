@@ -16,8 +16,8 @@ not_instance_stops c node o span e i u p = neither (instance_at c node) i u.0 p
 
 not_exported_stops : (a : At) (p : PostfixExpr) (e : Error) (next : At) → IsNotExported a p e → Accesses a p next → ⊥
 not_exported_stops a p e next u g =
-    let i : g.0 ≡ u.0 = some_once (instance_at a.composition a.node) g.0 u.0 g.2 u.1 in
-    neither (look_up (accessed p (exports_of u.0)) (exports_of u.0)) g.1 u.2 (subst (λ (m : Meaning). StandsFor (exports_of m) (accessed p (exports_of m)) g.1) i g.3)
+    let i : g.0 ≡ u.instance = some_once (instance_at a.composition a.node) g.0 u.instance g.2 u.there in
+    neither (look_up (accessed p (exports_of u.instance)) (exports_of u.instance)) g.1 u.fresh (subst (λ (m : Meaning). StandsFor (exports_of m) (accessed p (exports_of m)) g.1) i g.3)
 
 access_stops : (span : Span) (e : Error) (a : At) (before : List PostfixExpr) (p : PostfixExpr) (next : At) → AccessBroken span e a before p → Accesses a p next → ⊥
 access_stops span e a before p next (inl b) g = not_instance_stops a.composition a.node Operation.access _ e g.0 b g.2
@@ -26,8 +26,8 @@ access_stops span e a before p next (inr b) g = not_exported_stops a p e next b 
 no_match_stops : (imports : Named Meaning) (g : Giving) (node : ℕ) (span : Span) (e : Error) (i : Meaning) (new : Giving) → IsNoMatch imports g node span e → instance_at g.composition node ≡ Some i
     → new ≡ spread_from imports node (exports_of i) g → new.arguments ≢ g.arguments → ⊥
 no_match_stops imports g node span e i new u p is some =
-    let same : u.0 ≡ i = some_once (instance_at g.composition node) u.0 i u.1 p in
-    let none : (spread_from imports node (exports_of i) g).arguments ≡ g.arguments = subst (λ (m : Meaning). (spread_from imports node (exports_of m) g).arguments ≡ g.arguments) same u.2 in
+    let same : u.instance ≡ i = some_once (instance_at g.composition node) u.instance i u.there p in
+    let none : (spread_from imports node (exports_of i) g).arguments ≡ g.arguments = subst (λ (m : Meaning). (spread_from imports node (exports_of m) g).arguments ≡ g.arguments) same u.unchanged in
     some (ap (λ (m : Giving). m.arguments) is ∙ none)
 
 spread_stops : (imports : Named Meaning) (e : Error) (g : Giving) (before : List Ident) (id : Ident) (next : Giving) → SpreadBroken imports e g before id → Spreads imports g id next → ⊥
@@ -40,23 +40,23 @@ spread_stops imports e g before id next (inr (node, stands, b)) p =
 unknown_stops : (s : Given) (x : PackageName) (e : Error) (p : Contents) → IsUnknownPackage s x e → instantiable s x ≡ Some p → ⊥
 unknown_stops s x e p u h = neither (instantiable s x) p u.0 h
 
-no_import_stops : (s : Given) (p : Contents) (x : PackageName) (args : Arguments) (g : Giving) (e : Error) → IsNoImport s p x args g e → AllByRecursion (Fits s.rules (imports_in p) g.composition.nodes) g.arguments → ⊥
+no_import_stops : (s : Given) (p : Contents) (x : PackageName) (args : Arguments) (g : Giving) (e : Error) → IsNoImport s.rules p x args g e → AllByRecursion (Fits s.rules (imports_in p) g.composition.nodes) g.arguments → ⊥
 no_import_stops s p x args g e u all =
-    let f = reached_holds (Fits s.rules (imports_in p) g.composition.nodes) (Fits s.rules (imports_in p) g.composition.nodes) g.arguments u.0 u.2 all in
-    neither (look_up u.0.0 (imports_in p)) f.0 u.4 f.1
+    let f = reached_holds (Fits s.rules (imports_in p) g.composition.nodes) (Fits s.rules (imports_in p) g.composition.nodes) g.arguments u.argument u.reached all in
+    neither (look_up u.argument.0 (imports_in p)) f.0 u.fresh f.1
 
-mismatched_stops : (s : Given) (p : Contents) (args : Arguments) (g : Giving) (e : Error) → IsMismatched s p args g e → AllByRecursion (Fits s.rules (imports_in p) g.composition.nodes) g.arguments → ⊥
-mismatched_stops s p args g e (a, span, wants, r, reached, place, imported, against, is) all =
-    let f = reached_holds (Fits s.rules (imports_in p) g.composition.nodes) (Fits s.rules (imports_in p) g.composition.nodes) g.arguments a reached all in
-    let same : f.0 ≡ wants = some_once (look_up a.0 (imports_in p)) f.0 wants f.1 imported in
-    let yes = subst (λ (m : Meaning). s.rules.passes (kind_at g.composition.nodes a.1) m ≡ None) same f.2 in
-    neither (s.rules.passes (kind_at g.composition.nodes a.1) wants) r yes against
+mismatched_stops : (s : Given) (p : Contents) (args : Arguments) (g : Giving) (e : Error) → IsMismatched s.rules p args g e → AllByRecursion (Fits s.rules (imports_in p) g.composition.nodes) g.arguments → ⊥
+mismatched_stops s p args g e u all =
+    let f = reached_holds (Fits s.rules (imports_in p) g.composition.nodes) (Fits s.rules (imports_in p) g.composition.nodes) g.arguments u.argument u.reached all in
+    let same : f.0 ≡ u.wanted = some_once (look_up u.argument.0 (imports_in p)) f.0 u.wanted f.1 u.imported in
+    let yes = subst (λ (m : Meaning). s.rules.passes (kind_at g.composition.nodes u.argument.1) m ≡ None) same f.2 in
+    neither (s.rules.passes (kind_at g.composition.nodes u.argument.1) u.wanted) u.reason yes u.fails
 
 no_fill : (b : Bool) → b ≡ false → IsTrue b → ⊥
 no_fill b p h = cc (p, h)
 
-left_out_stops : (s : Given) (p : Contents) (x : PackageName) (args : Arguments) (g : Giving) (e : Error) (new : At) → IsLeftOut s p x args g e → Instantiates s.rules p (key_named x) (has_fill args) g new → ⊥
-left_out_stops s p x args g e new u h = elim h.complete [ inl f ↦ no_fill (has_fill args) u.3 f | inr none ↦ cc (u.4, none) ]
+left_out_stops : (s : Given) (p : Contents) (x : PackageName) (args : Arguments) (g : Giving) (e : Error) (new : At) → IsLeftOut s.rules p x args g e → Instantiates s.rules p (key_named x) (has_fill args) g new → ⊥
+left_out_stops s p x args g e new u h = elim h.complete [ inl f ↦ no_fill (has_fill args) u.unfilled f | inr none ↦ cc (u.left, none) ]
 
 instance_stops : (s : Given) (p : Contents) (x : PackageName) (args : Arguments) (g : Giving) (e : Error) (new : At) → InstantiationBroken s p x args g e → Instantiates s.rules p (key_named x) (has_fill args) g new → ⊥
 instance_stops s p x args g e new (inl b) h = no_import_stops s p x args g e b h.fit

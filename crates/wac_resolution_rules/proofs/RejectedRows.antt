@@ -128,7 +128,7 @@ places_g = record { bound = (codes "g", span 20 1) ∷ []; imported = (codes "g"
 -- package a:b; import g: func(); import k as g: func();
 imported_twice : (naming : Naming) → StatementBroken (given_in naming []) with_g places_g (duplicate_extern_name externs.Import (codes "g") (span 43 1) (span 20 1) None)
     (Statement.import_statement (record { docs = []; id = ident (codes "k") 38 1; name = Some (ExternName.ident (ident (codes "g") 43 1)); ty = ImportType.func no_params }))
-imported_twice naming = inr (function, 0, (func_entry false [] [], ([], [], refl, refl, refl), refl, refl), inl (function, span 20 1, refl, refl, refl))
+imported_twice naming = inr (function, 0, (func_entry false [] [], ([], [], refl, refl, refl), refl, refl), inl (record { kind = function; previous = span 20 1; imported = refl; place = refl; error = refl }))
 
 -- rules that reject every name
 abbrev no_names : Naming → Reason → Given
@@ -183,7 +183,7 @@ spread_gives_nothing naming p =
       g,
       refl,
       (g, refl, (g, (tt, refl), refl)),
-      record { before = []; failing = ident (codes "x") 70 1; after = []; split = refl; reached = g; leads = refl; breaks = inr (0, refl, inr (interface_entry None [] ((codes "q", function) ∷ []), refl, refl, refl)) },
+      record { before = []; failing = ident (codes "x") 70 1; after = []; split = refl; reached = g; leads = refl; breaks = inr (0, refl, inr (record { instance = interface_entry None [] ((codes "q", function) ∷ []); there = refl; unchanged = refl; error = refl })) },
     )))))
 
 abbrev given_g : Giving
@@ -200,7 +200,7 @@ no_such_import naming p =
       refl,
       (given_g, (at with_f 0, (at with_f 0, (0, refl, refl), refl), refl, refl), (given_g, (tt, refl), refl)),
       refl,
-      inl ((codes "g", 0), span 49 1, ([], [], refl, tt), refl, refl, refl),
+      inl (record { argument = (codes "g", 0); span = span 49 1; reached = ([], [], refl, tt); place = refl; fresh = refl; error = refl }),
     )))))
 
 -- ---- accesses
@@ -215,7 +215,7 @@ access_of_no_export : (naming : Naming) (p : Places) → StatementBroken (given_
     (let_at (codes "y") 53 (Expr.expr (span 57 3) (PrimaryExpr.ident (ident (codes "x") 57 1)) (PostfixExpr.access (record { span = span 58 2; id = ident (codes "g") 59 1 }) ∷ [])))
 access_of_no_export naming p =
     let a = at (with_x ((codes "f", function) ∷ [])) 0 in
-    inl (inr (a, (0, refl, refl), record { before = []; failing = _; after = []; split = refl; reached = a; leads = refl; breaks = inr (interface_entry None [] ((codes "f", function) ∷ []), refl, refl, refl) }))
+    inl (inr (a, (0, refl, refl), record { before = []; failing = _; after = []; split = refl; reached = a; leads = refl; breaks = inr (record { instance = interface_entry None [] ((codes "f", function) ∷ []); there = refl; fresh = refl; error = refl }) }))
 
 -- ---- exports
 
@@ -224,7 +224,7 @@ with_only_i = record { nodes = record (node_i (Some (codes "i"))) { arguments = 
 
 -- package a:b; let i = new c:d { ... }; export i;
 export_without_a_name : (naming : Naming) (p : Places) → StatementBroken (with_cd naming) with_only_i p (export_requires_as (span 45 1)) (export_at (plain_ident (codes "i") 45) ExportOptions.none)
-export_without_a_name naming p = inr (at with_only_i 0, (at with_only_i 0, (0, refl, refl), refl), inl (_, refl, refl, refl))
+export_without_a_name naming p = inr (at with_only_i 0, (at with_only_i 0, (0, refl, refl), refl), inl (record { node = _; there = refl; unnamed = refl; error = refl }))
 
 abbrev with_t_f : Composition
 with_t_f = record {
@@ -240,7 +240,7 @@ places_t_f = record { bound = (codes "t", span 18 1) ∷ (codes "f", span 33 1) 
 -- package a:b; type t = u8; import f: func(); export f as t;
 export_of_a_definition : (naming : Naming) → StatementBroken (given_in naming []) with_t_f places_t_f (export_conflict (codes "t") (codes "value type") (span 56 1) (span 18 1) None)
     (export_at (plain_ident (codes "f") 51) (ExportOptions.rename (ExternName.ident (ident (codes "t") 56 1))))
-export_of_a_definition naming = inr (at with_t_f 1, (at with_t_f 1, (1, refl, refl), refl), inl (alias_type (primitive_value primitives.U8), span 18 1, refl, refl, refl))
+export_of_a_definition naming = inr (at with_t_f 1, (at with_t_f 1, (1, refl, refl), refl), inl (record { kind = alias_type (primitive_value primitives.U8); definition = span 18 1; bound = refl; place = refl; error = refl }))
 
 -- package a:b; import f: func(); export f...;
 exports_of_a_function : (naming : Naming) (p : Places) → StatementBroken (given_in naming []) with_f p (not_an_instance (codes "function") Operation.spread (span 38 1)) (export_at (plain_ident (codes "f") 38) (ExportOptions.spread (span 39 3)))
@@ -248,7 +248,7 @@ exports_of_a_function naming p = inr (at with_f 0, (at with_f 0, (0, refl, refl)
 
 -- package a:b; import x: interface { }; export x...;
 no_exports : (naming : Naming) (p : Places) → StatementBroken (given_in naming []) (with_x []) p (spread_export_no_effect (span 45 1)) (export_at (plain_ident (codes "x") 45) (ExportOptions.spread (span 46 3)))
-no_exports naming p = inr (at (with_x []) 0, (at (with_x []) 0, (0, refl, refl), refl), inr (inl (interface_entry None [] [], refl, refl, refl)))
+no_exports naming p = inr (at (with_x []) 0, (at (with_x []) 0, (0, refl, refl), refl), inr (inl (record { instance = interface_entry None [] []; there = refl; none = refl; error = refl })))
 
 -- ---- targets
 
@@ -280,14 +280,14 @@ empty_world = world_entry (Some (codes "a:b/w")) [] [] []
 
 -- package a:b targets a:b/w; world w { } import f: func();
 not_in_target : (naming : Naming) → TargetBroken (given_in naming []) (under_w empty_world (codes "f") function []) (placed_at (codes "f") 46) (import_not_in_target (codes "f") (codes "a:b/w") (Some (span 46 1))) (target_at (codes "a:b/w") (codes "w"))
-not_in_target naming = inr (kind_of a_world empty_world, (_, refl, (_, refl, refl)), inr (empty_world, refl, inl (((codes "f", function), Some (span 46 1)), ([], [], refl, tt), refl, refl)))
+not_in_target naming = inr (kind_of a_world empty_world, (_, refl, (_, refl, refl)), inr (empty_world, refl, inl (record { imported = ((codes "f", function), Some (span 46 1)); reached = ([], [], refl, tt); absent = refl; error = refl })))
 
 abbrev world_with_f : Meaning
 world_with_f = world_entry (Some (codes "a:b/w")) [] ((codes "f", function) ∷ []) []
 
 -- package a:b targets a:b/w; world w { import f: func(); } import f: func(x: u8);
 import_of_another_kind : (naming : Naming) (r : Reason) → TargetBroken (none_pass naming r) (under_w world_with_f (codes "f") other []) (placed_at (codes "f") 64) (target_mismatch externs.Import (codes "f") (codes "a:b/w") r (Some (span 64 1))) (target_at (codes "a:b/w") (codes "w"))
-import_of_another_kind naming r = inr (kind_of a_world world_with_f, (_, refl, (_, refl, refl)), inr (world_with_f, refl, inr (inl (((codes "f", other), Some (span 64 1)), function, r, ([], [], refl, tt), refl, refl, refl))))
+import_of_another_kind naming r = inr (kind_of a_world world_with_f, (_, refl, (_, refl, refl)), inr (world_with_f, refl, inr (inl (record { imported = ((codes "f", other), Some (span 64 1)); kind = function; reason = r; reached = ([], [], refl, tt); there = refl; fails = refl; error = refl }))))
 
 -- rules that require a parameter
 abbrev asks_for_params : Reason → Row → Option Reason
@@ -304,4 +304,23 @@ world_with_g_f = world_entry (Some (codes "a:b/w")) [] ((codes "g", other) ∷ [
 export_of_another_kind : (naming : Naming) (r : Reason)
     → TargetBroken (with_params naming r) (under_w world_with_g_f (codes "g") other ((codes "f", 1) ∷ [])) (placed_at (codes "g") 87) (target_mismatch externs.Export (codes "f") (codes "a:b/w") r (Some (span 115 1))) (target_at (codes "a:b/w") (codes "w"))
 export_of_another_kind naming r =
-    inr (kind_of a_world world_with_g_f, (_, refl, (_, refl, refl)), inr (world_with_g_f, refl, inr (inr (inr ((codes "f", function), 1, r, span 115 1, ((other, refl, refl), tt), ([], [], refl, tt), refl, refl, refl, refl)))))
+    inr (
+      kind_of a_world world_with_g_f,
+      (_, refl, (_, refl, refl)),
+      inr (
+        world_with_g_f,
+        refl,
+        inr (inr (inr (record {
+          wanted = (codes "f", function);
+          node = 1;
+          reason = r;
+          span = span 115 1;
+          fit = ((other, refl, refl), tt);
+          reached = ([], [], refl, tt);
+          exported = refl;
+          fails = refl;
+          place = refl;
+          error = refl;
+        }))),
+      ),
+    )

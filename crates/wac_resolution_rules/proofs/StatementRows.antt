@@ -189,7 +189,7 @@ argument_is_missing naming p = inl (inl (inr (inr (inr (
   refl,
   (given_log, (0, node_log, refl, refl, refl, refl), refl),
   refl,
-  inr (inr ((codes "x:y/z", instance_z), [], ((function, refl, refl), tt), refl, refl, refl)),
+  inr (inr (record { wanted = (codes "x:y/z", instance_z); others = []; fit = ((function, refl, refl), tt); unfilled = refl; left = refl; error = refl })),
 )))))
 
 -- with { log, ..., } and a package that isn't given, 45+3: unknown package c:d
@@ -275,7 +275,7 @@ argument_mismatches naming p r = inl (inl (inr (inr (inr (
   refl,
   (record { composition = with_x_log; arguments = [] }, refl, (record { composition = with_x_log; arguments = [] }, (tt, refl), refl)),
   (spread_log, (0, interface_entry None [] ((codes "log", function) ∷ []), refl, refl, refl, λ h. cc h), refl),
-  inr (inl ((codes "log", 1), span 72 1, function, r, ([], [], refl, tt), refl, refl, refl, refl)),
+  inr (inl (record { argument = (codes "log", 1); span = span 72 1; wanted = function; reason = r; reached = ([], [], refl, tt); place = refl; imported = refl; fails = refl; error = refl })),
 )))))
 
 -- ---- package a:b; import g: func(); import k: func(); export g as f; export g as h; export k as f;
@@ -296,7 +296,7 @@ export_k_as_f = Statement.export_statement (record { docs = []; expr = Expr.expr
 
 -- 91+1, previous 61+1: duplicate export f
 pub export_is_repeated : (naming : Naming) → StatementBroken (given_in naming []) with_f_h places_f_h (duplicate_extern_name externs.Export (codes "f") (span 91 1) (span 61 1) None) export_k_as_f
-export_is_repeated naming = inr (record { composition = with_f_h; node = 1 }, (record { composition = with_f_h; node = 1 }, (1, refl, refl), refl), inr (refl, inl (0, span 61 1, refl, refl, refl)))
+export_is_repeated naming = inr (record { composition = with_f_h; node = 1 }, (record { composition = with_f_h; node = 1 }, (1, refl, refl), refl), inr (refl, inl (record { node = 0; previous = span 61 1; exported = refl; place = refl; error = refl })))
 
 -- ---- package a:b targets a:b/w; world w { export run: func(); }
 
@@ -328,14 +328,19 @@ world_composes naming = (
 
 -- 20+5: target world a:b/w requires an export named run
 pub export_is_missing : (naming : Naming) (p : Places) → TargetBroken (given_in naming []) with_w p (missing_target_export (codes "run") (codes "a:b/w") (codes "function") (span 20 5)) target_w
-export_is_missing naming p = inr (kind_of a_world entry_w, (root_scope with_w, refl, (kind_of a_world entry_w, refl, refl)), inr (entry_w, refl, inr (inr (inl ((codes "run", function), tt, ([], [], refl, tt), refl, refl)))))
+export_is_missing naming p = inr (kind_of a_world entry_w, (root_scope with_w, refl, (kind_of a_world entry_w, refl, refl)), inr (entry_w, refl, inr (inr (inl (record { wanted = (codes "run", function); fit = tt; reached = ([], [], refl, tt); fresh = refl; error = refl })))))
 
 -- ---- the composition of log, i and i.run under targets
 
 -- what i leaves open isn't allowed by a world that imports log alone; it has no place
 pub open_not_in_target : (naming : Naming) (p : Places)
     → TargetWorldBroken (with_cd naming) whole_i p (import_not_in_target (codes "x:y/z") (codes "a:b/w") None) target_w (world_entry (Some (codes "a:b/w")) [] ((codes "log", function) ∷ []) [])
-open_not_in_target naming p = inl (((codes "x:y/z", instance_z), None), (((codes "log", function), look_up (codes "log") p.imported) ∷ [], [], refl, ((function, refl, refl), tt)), refl, refl)
+open_not_in_target naming p = inl (record {
+  imported = ((codes "x:y/z", instance_z), None);
+  reached = (((codes "log", function), look_up (codes "log") p.imported) ∷ [], [], refl, ((function, refl, refl), tt));
+  absent = refl;
+  error = refl;
+})
 
 -- a world that uses a type of x:y/z allows it
 pub used_is_allowed : (naming : Naming)

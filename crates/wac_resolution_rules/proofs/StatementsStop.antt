@@ -31,16 +31,16 @@ bound_stops : (c : Composition) (p : Places) (id : Ident) (e : Error) → IsBoun
 bound_stops c p id e u fresh = neither (look_up id.string c.declared) u.0 fresh u.2
 
 imported_stops : (c : Composition) (p : Places) (name : List ℕ) (span : Span) (help : Option (List ℕ)) (e : Error) → IsImportedAlready c p name span help e → IsFresh name (imports c) → ⊥
-imported_stops c p name span help e u fresh = neither (look_up name (imports c)) u.0 fresh u.2
+imported_stops c p name span help e u fresh = neither (look_up name (imports c)) u.kind fresh u.imported
 
 exported_stops : (c : Composition) (p : Places) (name : List ℕ) (span : Span) (help : Option (List ℕ)) (e : Error) → IsExportedAlready c p name span help e → IsFresh name c.exports → ⊥
-exported_stops c p name span help e u fresh = neither (look_up name c.exports) u.0 fresh u.2
+exported_stops c p name span help e u fresh = neither (look_up name c.exports) u.node fresh u.exported
 
 invalid_stops : (s : Given) (name : List ℕ) (kind : ExternKind) (span : Span) (e : Error) → IsInvalidName s name kind span e → s.rules.named name ≡ None → ⊥
 invalid_stops s name kind span e u h = neither (s.rules.named name) u.0 h u.1
 
 conflict_stops : (c : Composition) (p : Places) (name : List ℕ) (span : Span) (help : Option (List ℕ)) (e : Error) → IsExportConflict c p name span help e → definition_bound c name ≡ None → ⊥
-conflict_stops c p name span help e u h = neither (definition_bound c name) u.0 h u.2
+conflict_stops c p name span help e u h = neither (definition_bound c name) u.kind h u.bound
 
 -- ---- statements
 
@@ -72,13 +72,13 @@ export_as_stops s c p name span help e node new (inr (conflict, inr f)) g = inva
 
 unnamed_stops : (a : At) (span : Span) (e : Error) (n : Node) (name : List ℕ) → IsUnnamed a span e → node_at a.composition a.node ≡ Some n → unnamed_export n ≡ Some name → ⊥
 unnamed_stops a span e n name u is h =
-    let same : n ≡ u.0 = some_once (node_at a.composition a.node) n u.0 is u.1 in
-    neither (unnamed_export u.0) name u.2 (subst (λ (m : Node). unnamed_export m ≡ Some name) same h)
+    let same : n ≡ u.node = some_once (node_at a.composition a.node) n u.node is u.there in
+    neither (unnamed_export u.node) name u.unnamed (subst (λ (m : Node). unnamed_export m ≡ Some name) same h)
 
 no_effect_stops : (a : At) (span : Span) (e : Error) (i : Meaning) → IsNoEffect a span e → instance_at a.composition a.node ≡ Some i → unexported a.composition.exports (exports_of i) ≢ [] → ⊥
 no_effect_stops a span e i u is some =
-    let same : u.0 ≡ i = some_once (instance_at a.composition a.node) u.0 i u.1 is in
-    some (subst (λ (m : Meaning). unexported a.composition.exports (exports_of m) ≡ []) same u.2)
+    let same : u.instance ≡ i = some_once (instance_at a.composition a.node) u.instance i u.there is in
+    some (subst (λ (m : Meaning). unexported a.composition.exports (exports_of m) ≡ []) same u.none)
 
 one_stops : (s : Given) (p : Places) (span : Span) (e : Error) (node : ℕ) → (c : Composition) (before : Named Meaning) (x : List ℕ × Meaning) (next : Composition) → ExportOneBroken s p span e node c before x → ExportsOne s node c x next → ⊥
 one_stops s p span e node c before x next f g = export_as_stops s _ (record p { exported = p.exported ++ names_at span before }) x.0 span None e _ next f g
@@ -147,25 +147,25 @@ not_world_stops path k w e u h = neither (world_of k) w u.0 h
 
 not_in_target_stops : (s : Given) (c : Composition) (p : Places) (path : PackagePath) (w : Meaning) (e : Error) → IsNotInTarget s c p path w e → IsAllowed s c w → ⊥
 not_in_target_stops s c p path w e u h =
-    let f = reached_holds (λ (y : PlacedImport). ImportAllowed s w y.0) (λ (y : PlacedImport). ImportAllowed s w y.0) (placed_imports s c p) u.0 u.1 (placed_allowed s c p w h.0) in
-    neither (allowed w u.0.0.0) f.0 u.2 f.1
+    let f = reached_holds (λ (y : PlacedImport). ImportAllowed s w y.0) (λ (y : PlacedImport). ImportAllowed s w y.0) (placed_imports s c p) u.imported u.reached (placed_allowed s c p w h.0) in
+    neither (allowed w u.imported.0.0) f.0 u.absent f.1
 
 import_mismatch_stops : (s : Given) (c : Composition) (p : Places) (path : PackagePath) (w : Meaning) (e : Error) → IsImportMismatch s c p path w e → IsAllowed s c w → ⊥
-import_mismatch_stops s c p path w e (x, k, r, reached, is, against, error) h =
-    let f = reached_holds (λ (y : PlacedImport). ImportAllowed s w y.0) (λ (y : PlacedImport). ImportAllowed s w y.0) (placed_imports s c p) x reached (placed_allowed s c p w h.0) in
-    let same : f.0 ≡ k = some_once (allowed w x.0.0) f.0 k f.1 is in
-    neither (s.rules.passes (promoted k) x.0.1) r (subst (λ (m : Meaning). s.rules.passes (promoted m) x.0.1 ≡ None) same f.2) against
+import_mismatch_stops s c p path w e u h =
+    let f = reached_holds (λ (y : PlacedImport). ImportAllowed s w y.0) (λ (y : PlacedImport). ImportAllowed s w y.0) (placed_imports s c p) u.imported u.reached (placed_allowed s c p w h.0) in
+    let same : f.0 ≡ u.kind = some_once (allowed w u.imported.0.0) f.0 u.kind f.1 u.there in
+    neither (s.rules.passes (promoted u.kind) u.imported.0.1) u.reason (subst (λ (m : Meaning). s.rules.passes (promoted m) u.imported.0.1 ≡ None) same f.2) u.fails
 
 missing_stops : (s : Given) (c : Composition) (path : PackagePath) (w : Meaning) (e : Error) → IsMissingExport s c path w e → IsAllowed s c w → ⊥
 missing_stops s c path w e u h =
-    let f = reached_holds (ExportMet s c) (ExportMet s c) (exports_of w) u.0 u.2 h.1 in
-    neither (look_up u.0.0 c.exports) f.0 u.3 f.1
+    let f = reached_holds (ExportMet s c) (ExportMet s c) (exports_of w) u.wanted u.reached h.1 in
+    neither (look_up u.wanted.0 c.exports) f.0 u.fresh f.1
 
 export_mismatch_stops : (s : Given) (c : Composition) (p : Places) (path : PackagePath) (w : Meaning) (e : Error) → IsExportMismatch s c p path w e → IsAllowed s c w → ⊥
-export_mismatch_stops s c p path w e (x, node, r, span, all, reached, exported, against, place, error) h =
-    let f = reached_holds (ExportMet s c) (ExportMet s c) (exports_of w) x reached h.1 in
-    let same : f.0 ≡ node = some_once (look_up x.0 c.exports) f.0 node f.1 exported in
-    neither (s.rules.passes (kind_at c.nodes node) (promoted x.1)) r (subst (λ (m : ℕ). s.rules.passes (kind_at c.nodes m) (promoted x.1) ≡ None) same f.2) against
+export_mismatch_stops s c p path w e u h =
+    let f = reached_holds (ExportMet s c) (ExportMet s c) (exports_of w) u.wanted u.reached h.1 in
+    let same : f.0 ≡ u.node = some_once (look_up u.wanted.0 c.exports) f.0 u.node f.1 u.exported in
+    neither (s.rules.passes (kind_at c.nodes u.node) (promoted u.wanted.1)) u.reason (subst (λ (m : ℕ). s.rules.passes (kind_at c.nodes m) (promoted u.wanted.1) ≡ None) same f.2) u.fails
 
 world_stops : (s : Given) (c : Composition) (p : Places) (e : Error) (path : PackagePath) (w : Meaning) → TargetWorldBroken s c p e path w → IsAllowed s c w → ⊥
 world_stops s c p e path w (inl f) h = not_in_target_stops s c p path w e f h

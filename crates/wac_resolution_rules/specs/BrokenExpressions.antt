@@ -11,7 +11,7 @@ use Rattle.wac_graph.specs.Packages.{Contents}
 use Rattle.wac_ast_grammar.specs.Tree.{Ident, PackageName, PostfixExpr, Expr, PrimaryExpr, Arguments, InstantiationArgument}
 use Rattle.wac_ast_grammar.specs.Grammar.{primary_span, postfix_span, last_span}
 use Rattle.wac_ast_grammar.specs.Spans.{argument_name_span}
-use Rattle.wac_resolution_rules.specs.Given.{Given, instantiable, imports_in}
+use Rattle.wac_resolution_rules.specs.Given.{Given, Rules, instantiable, imports_in}
 use Rattle.wac_resolution_rules.specs.Composition.{Composition, Node, kind_at}
 use Rattle.wac_resolution_rules.specs.Nodes.{node_at, instance_at}
 use Rattle.wac_resolution_rules.specs.Expressions.{At, accessed, Accesses, Giving, nothing_given, name_meant, name_inferred, spread_from, Spreads, spreads_of, has_fill, IsEmpty, Fits, left_out, Stands, PrimaryStands, Gives, GivesOne}
@@ -30,10 +30,11 @@ IsNotInstance c node operation span e = (instance_at c node ≡ None)
     × (e ≡ not_an_instance (described (kind_at c.nodes node)) operation span)
 
 -- the instance has no such export
-abbrev pub IsNotExported : At → PostfixExpr → Error → Type 0
-IsNotExported a p e = (i : Meaning) × (instance_at a.composition a.node ≡ Some i)
-    × IsFresh (accessed p (exports_of i)) (exports_of i)
-    × (e ≡ missing_instance_export (accessed p (exports_of i)) (postfix_span p))
+pub record IsNotExported (a : At) (p : PostfixExpr) (e : Error) : Type 0 where
+  pub instance : Meaning
+  pub there : instance_at a.composition a.node ≡ Some instance
+  pub fresh : IsFresh (accessed p (exports_of instance)) (exports_of instance)
+  pub error : e ≡ missing_instance_export (accessed p (exports_of instance)) (postfix_span p)
 
 -- the package isn't given, or is the document's own
 abbrev pub IsUnknownPackage : Given → PackageName → Error → Type 0
@@ -49,9 +50,11 @@ IsGivenAlready g name span e = (node : ℕ) × StandsFor g.arguments name node
     × (e ≡ duplicate_instantiation_arg name span)
 
 -- the instance exports no import for which nothing is given yet
-abbrev pub IsNoMatch : Named Meaning → Giving → ℕ → Span → Error → Type 0
-IsNoMatch imports g node span e = (i : Meaning) × (instance_at g.composition node ≡ Some i)
-    × ((spread_from imports node (exports_of i) g).arguments ≡ g.arguments) × (e ≡ spread_instantiation_no_match span)
+pub record IsNoMatch (imports : Named Meaning) (g : Giving) (node : ℕ) (span : Span) (e : Error) : Type 0 where
+  pub instance : Meaning
+  pub there : instance_at g.composition node ≡ Some instance
+  pub unchanged : (spread_from imports node (exports_of instance) g).arguments ≡ g.arguments
+  pub error : e ≡ spread_instantiation_no_match span
 
 -- where the argument for a name is: the argument itself, else the first spread whose instance exports the name
 abbrev pub argument_place : Composition → Named Meaning → InstantiationArgument → Named Span
@@ -74,24 +77,36 @@ abbrev pub argument_places : Composition → Named Meaning → Arguments → Nam
 argument_places c imports args = own_places c imports args ++ flat_map (spread_places c) (spreads_of args)
 
 -- the package has no such import
-abbrev pub IsNoImport : Given → Contents → PackageName → Arguments → Giving → Error → Type 0
-IsNoImport s p x args g e = (a : List ℕ × ℕ) × (span : Span)
-    × ReachedAt (Fits s.rules (imports_in p) g.composition.nodes) g.arguments a
-    × StandsFor (argument_places g.composition (imports_in p) args) a.0 span
-    × IsFresh a.0 (imports_in p) × (e ≡ missing_component_import x.name a.0 span)
+pub record IsNoImport (rules : Rules) (p : Contents) (x : PackageName) (args : Arguments) (g : Giving) (e : Error)
+    : Type 0 where
+  pub argument : List ℕ × ℕ
+  pub span : Span
+  pub reached : ReachedAt (Fits rules (imports_in p) g.composition.nodes) g.arguments argument
+  pub place : StandsFor (argument_places g.composition (imports_in p) args) argument.0 span
+  pub fresh : IsFresh argument.0 (imports_in p)
+  pub error : e ≡ missing_component_import x.name argument.0 span
 
 -- the argument does not fit the import
-abbrev pub IsMismatched : Given → Contents → Arguments → Giving → Error → Type 0
-IsMismatched s p args g e = (a : List ℕ × ℕ) × (span : Span) × (wants : Meaning) × (r : Reason)
-    × ReachedAt (Fits s.rules (imports_in p) g.composition.nodes) g.arguments a
-    × StandsFor (argument_places g.composition (imports_in p) args) a.0 span × StandsFor (imports_in p) a.0 wants
-    × (s.rules.passes (kind_at g.composition.nodes a.1) wants ≡ Some r) × (e ≡ mismatched_instantiation_arg a.0 r span)
+pub record IsMismatched (rules : Rules) (p : Contents) (args : Arguments) (g : Giving) (e : Error) : Type 0 where
+  pub argument : List ℕ × ℕ
+  pub span : Span
+  pub wanted : Meaning
+  pub reason : Reason
+  pub reached : ReachedAt (Fits rules (imports_in p) g.composition.nodes) g.arguments argument
+  pub place : StandsFor (argument_places g.composition (imports_in p) args) argument.0 span
+  pub imported : StandsFor (imports_in p) argument.0 wanted
+  pub fails : rules.passes (kind_at g.composition.nodes argument.1) wanted ≡ Some reason
+  pub error : e ≡ mismatched_instantiation_arg argument.0 reason span
 
 -- nothing is given for an import, and there is no fill
-abbrev pub IsLeftOut : Given → Contents → PackageName → Arguments → Giving → Error → Type 0
-IsLeftOut s p x args g e = (i : List ℕ × Meaning) × (others : Named Meaning)
-    × AllByRecursion (Fits s.rules (imports_in p) g.composition.nodes) g.arguments × (has_fill args ≡ false)
-    × (left_out (imports_in p) g.arguments ≡ i ∷ others) × (e ≡ missing_instantiation_arg i.0 x.string x.span)
+pub record IsLeftOut (rules : Rules) (p : Contents) (x : PackageName) (args : Arguments) (g : Giving) (e : Error)
+    : Type 0 where
+  pub wanted : List ℕ × Meaning
+  pub others : Named Meaning
+  pub fit : AllByRecursion (Fits rules (imports_in p) g.composition.nodes) g.arguments
+  pub unfilled : has_fill args ≡ false
+  pub left : left_out (imports_in p) g.arguments ≡ wanted ∷ others
+  pub error : e ≡ missing_instantiation_arg wanted.0 x.string x.span
 
 -- ---- where they are tested
 
@@ -105,7 +120,8 @@ SpreadBroken imports e g before id = IsUndefined g.composition.declared id e
     × (IsNotInstance g.composition node Operation.spread id.span e ⊎ IsNoMatch imports g node id.span e))
 
 abbrev pub InstantiationBroken : Given → Contents → PackageName → Arguments → Giving → Error → Type 0
-InstantiationBroken s p x args g e = IsNoImport s p x args g e ⊎ IsMismatched s p args g e ⊎ IsLeftOut s p x args g e
+InstantiationBroken s p x args g e = IsNoImport s.rules p x args g e ⊎ IsMismatched s.rules p args g e
+    ⊎ IsLeftOut s.rules p x args g e
 
 abbrev mutual
   pub ExprBroken : Given → Composition → Error → Expr → Type 0

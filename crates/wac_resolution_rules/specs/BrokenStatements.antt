@@ -32,16 +32,22 @@ use Rattle.wac_resolution_rules.specs.Places.{Places, names_at}
 -- ---- one rule each
 
 -- the name is imported already
-abbrev pub IsImportedAlready : Composition → Places → List ℕ → Span → Option (List ℕ) → Error → Type 0
-IsImportedAlready c p name span help e = (k : Meaning) × (previous : Span) × StandsFor (imports c) name k
-    × StandsFor p.imported name previous
-    × (e ≡ duplicate_extern_name externs.Import name span previous help)
+pub record IsImportedAlready (c : Composition) (p : Places) (name : List ℕ) (span : Span) (help : Option (List ℕ))
+    (e : Error) : Type 0 where
+  pub kind : Meaning
+  pub previous : Span
+  pub imported : StandsFor (imports c) name kind
+  pub place : StandsFor p.imported name previous
+  pub error : e ≡ duplicate_extern_name externs.Import name span previous help
 
 -- the name is exported already
-abbrev pub IsExportedAlready : Composition → Places → List ℕ → Span → Option (List ℕ) → Error → Type 0
-IsExportedAlready c p name span help e = (node : ℕ) × (previous : Span) × StandsFor c.exports name node
-    × StandsFor p.exported name previous
-    × (e ≡ duplicate_extern_name externs.Export name span previous help)
+pub record IsExportedAlready (c : Composition) (p : Places) (name : List ℕ) (span : Span) (help : Option (List ℕ))
+    (e : Error) : Type 0 where
+  pub node : ℕ
+  pub previous : Span
+  pub exported : StandsFor c.exports name node
+  pub place : StandsFor p.exported name previous
+  pub error : e ≡ duplicate_extern_name externs.Export name span previous help
 
 -- no import or export may have the name
 abbrev pub IsInvalidName : Given → List ℕ → ExternKind → Span → Error → Type 0
@@ -49,20 +55,27 @@ IsInvalidName s name kind span e = (r : Reason) × (s.rules.named name ≡ Some 
     × (e ≡ invalid_extern_name name kind r span)
 
 -- the name is bound at root to a definition
-abbrev pub IsExportConflict : Composition → Places → List ℕ → Span → Option (List ℕ) → Error → Type 0
-IsExportConflict c p name span help e = (k : Meaning) × (definition : Span) × (definition_bound c name ≡ Some k)
-    × StandsFor p.bound name definition
-    × (e ≡ export_conflict name (described k) span definition help)
+pub record IsExportConflict (c : Composition) (p : Places) (name : List ℕ) (span : Span) (help : Option (List ℕ))
+    (e : Error) : Type 0 where
+  pub kind : Meaning
+  pub definition : Span
+  pub bound : definition_bound c name ≡ Some kind
+  pub place : StandsFor p.bound name definition
+  pub error : e ≡ export_conflict name (described kind) span definition help
 
 -- the node has no name of its own
-abbrev pub IsUnnamed : At → Span → Error → Type 0
-IsUnnamed a span e = (n : Node) × (node_at a.composition a.node ≡ Some n) × (unnamed_export n ≡ None)
-    × (e ≡ export_requires_as span)
+pub record IsUnnamed (a : At) (span : Span) (e : Error) : Type 0 where
+  pub node : Node
+  pub there : node_at a.composition a.node ≡ Some node
+  pub unnamed : unnamed_export node ≡ None
+  pub error : e ≡ export_requires_as span
 
 -- all exports of the instance are exported already
-abbrev pub IsNoEffect : At → Span → Error → Type 0
-IsNoEffect a span e = (i : Meaning) × (instance_at a.composition a.node ≡ Some i)
-    × (unexported a.composition.exports (exports_of i) ≡ []) × (e ≡ spread_export_no_effect span)
+pub record IsNoEffect (a : At) (span : Span) (e : Error) : Type 0 where
+  pub instance : Meaning
+  pub there : instance_at a.composition a.node ≡ Some instance
+  pub none : unexported a.composition.exports (exports_of instance) ≡ []
+  pub error : e ≡ spread_export_no_effect span
 
 -- the target isn't a world type
 abbrev pub IsNotWorld : PackagePath → Meaning → Error → Type 0
@@ -74,31 +87,45 @@ placed_imports s c p =
     map (λ x. (x, look_up x.0 p.imported)) (imports c) ++ map (λ x. (x, None)) (flat_map (open_imports s) c.nodes)
 
 -- the target allows no import of that name
-abbrev pub IsNotInTarget : Given → Composition → Places → PackagePath → Meaning → Error → Type 0
-IsNotInTarget s c p path w e = (x : (List ℕ × Meaning) × Option Span)
-    × ReachedAt (λ y. ImportAllowed s w y.0) (placed_imports s c p) x
-    × (allowed w x.0.0 ≡ None) × (e ≡ import_not_in_target x.0.0 path.string x.1)
+pub record IsNotInTarget (s : Given) (c : Composition) (p : Places) (path : PackagePath) (w : Meaning) (e : Error)
+    : Type 0 where
+  pub imported : (List ℕ × Meaning) × Option Span
+  pub reached : ReachedAt (λ y. ImportAllowed s w y.0) (placed_imports s c p) imported
+  pub absent : allowed w imported.0.0 ≡ None
+  pub error : e ≡ import_not_in_target imported.0.0 path.string imported.1
 
 -- what the target allows does not fit the import
-abbrev pub IsImportMismatch : Given → Composition → Places → PackagePath → Meaning → Error → Type 0
-IsImportMismatch s c p path w e = (x : (List ℕ × Meaning) × Option Span) × (k : Meaning) × (r : Reason)
-    × ReachedAt (λ y. ImportAllowed s w y.0) (placed_imports s c p) x
-    × (allowed w x.0.0 ≡ Some k) × (s.rules.passes (promoted k) x.0.1 ≡ Some r)
-    × (e ≡ target_mismatch externs.Import x.0.0 path.string r x.1)
+pub record IsImportMismatch (s : Given) (c : Composition) (p : Places) (path : PackagePath) (w : Meaning) (e : Error)
+    : Type 0 where
+  pub imported : (List ℕ × Meaning) × Option Span
+  pub kind : Meaning
+  pub reason : Reason
+  pub reached : ReachedAt (λ y. ImportAllowed s w y.0) (placed_imports s c p) imported
+  pub there : allowed w imported.0.0 ≡ Some kind
+  pub fails : s.rules.passes (promoted kind) imported.0.1 ≡ Some reason
+  pub error : e ≡ target_mismatch externs.Import imported.0.0 path.string reason imported.1
 
 -- nothing is exported under the name of an export of the target
-abbrev pub IsMissingExport : Given → Composition → PackagePath → Meaning → Error → Type 0
-IsMissingExport s c path w e = (x : List ℕ × Meaning) × AllByRecursion (ImportAllowed s w) (all_imports s c)
-    × ReachedAt (ExportMet s c) (exports_of w) x
-    × IsFresh x.0 c.exports × (e ≡ missing_target_export x.0 path.string (described x.1) path.span)
+pub record IsMissingExport (s : Given) (c : Composition) (path : PackagePath) (w : Meaning) (e : Error) : Type 0 where
+  pub wanted : List ℕ × Meaning
+  pub fit : AllByRecursion (ImportAllowed s w) (all_imports s c)
+  pub reached : ReachedAt (ExportMet s c) (exports_of w) wanted
+  pub fresh : IsFresh wanted.0 c.exports
+  pub error : e ≡ missing_target_export wanted.0 path.string (described wanted.1) path.span
 
 -- what is exported does not fit the export of the target
-abbrev pub IsExportMismatch : Given → Composition → Places → PackagePath → Meaning → Error → Type 0
-IsExportMismatch s c p path w e = (x : List ℕ × Meaning) × (node : ℕ) × (r : Reason) × (span : Span)
-    × AllByRecursion (ImportAllowed s w) (all_imports s c)
-    × ReachedAt (ExportMet s c) (exports_of w) x × StandsFor c.exports x.0 node
-    × (s.rules.passes (kind_at c.nodes node) (promoted x.1) ≡ Some r)
-    × StandsFor p.exported x.0 span × (e ≡ target_mismatch externs.Export x.0 path.string r (Some span))
+pub record IsExportMismatch (s : Given) (c : Composition) (p : Places) (path : PackagePath) (w : Meaning) (e : Error)
+    : Type 0 where
+  pub wanted : List ℕ × Meaning
+  pub node : ℕ
+  pub reason : Reason
+  pub span : Span
+  pub fit : AllByRecursion (ImportAllowed s w) (all_imports s c)
+  pub reached : ReachedAt (ExportMet s c) (exports_of w) wanted
+  pub exported : StandsFor c.exports wanted.0 node
+  pub fails : s.rules.passes (kind_at c.nodes node) (promoted wanted.1) ≡ Some reason
+  pub place : StandsFor p.exported wanted.0 span
+  pub error : e ≡ target_mismatch externs.Export wanted.0 path.string reason (Some span)
 
 -- ---- where they are tested
 

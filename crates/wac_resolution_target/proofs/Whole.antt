@@ -195,8 +195,21 @@ module _ (g : Parts) (rules : Rules) (target : Target) (naming : Naming) (one : 
         ∙ ap (λ (l : List ((List ℕ × Meaning) × Option Span)). map at_root g.imports ++ l) (map_twice (λ (x : List ℕ × Meaning). (x, None)) (λ x. of_kind g x naming) opens)
 
     from_denied : (x : (List ℕ × Meaning) × Option Span) → ReachedAt IsPlacedIn (map at_root g.imports ++ map at_none opens) x → IsDenied s t.path w x e → TargetWorldBroken s c p e t.path w
-    from_denied x r (inl d) = inl (x, subst (λ l. ReachedAt IsPlacedIn l x) (sym placed_are) r, d.0, d.1)
-    from_denied x r (inr d) = inr (inl (x, d.0, d.1, subst (λ l. ReachedAt IsPlacedIn l x) (sym placed_are) r, d.2, d.3, d.4))
+    from_denied x r (inl d) = inl (record {
+      imported = x;
+      reached = subst (λ l. ReachedAt IsPlacedIn l x) (sym placed_are) r;
+      absent = d.0;
+      error = d.1;
+    })
+    from_denied x r (inr d) = inr (inl (record {
+      imported = x;
+      kind = d.0;
+      reason = d.1;
+      reached = subst (λ l. ReachedAt IsPlacedIn l x) (sym placed_are) r;
+      there = d.2;
+      fails = d.3;
+      error = d.4;
+    }))
 
     pub import_denied : SomeDenied t (of_node g) (λ x. look_up x.0 p.imported) g.imports e → TargetWorldBroken s c p e t.path w
     import_denied (x, r, d) =
@@ -215,5 +228,22 @@ module _ (g : Parts) (rules : Rules) (target : Target) (naming : Naming) (one : 
         reached = subst (λ l. ReachedAt (ExportMet s c) l (of_kind g x naming)) (sym exports_meant) (reached_mapped (λ y. of_kind g y naming) (λ y. Met t (of_kind g y)) (ExportMet s c) (λ y a. a naming context declared one) (world_exports g.types target.world.0) x r)
 
         go : IsUnmet s c p.exported t.path (of_kind g x naming) e → TargetWorldBroken s c p e t.path w
-        go (inl u) = inr (inr (inl (of_kind g x naming, all_in h k, reached, u.0, u.1)))
-        go (inr u) = inr (inr (inr (of_kind g x naming, u.0, u.1, u.2, all_in h k, reached, u.3, u.4, u.5, u.6)))
+        go (inl u) = inr (inr (inl (record {
+          wanted = of_kind g x naming;
+          fit = all_in h k;
+          reached = reached;
+          fresh = u.0;
+          error = u.1;
+        })))
+        go (inr u) = inr (inr (inr (record {
+          wanted = of_kind g x naming;
+          node = u.0;
+          reason = u.1;
+          span = u.2;
+          fit = all_in h k;
+          reached = reached;
+          exported = u.3;
+          fails = u.4;
+          place = u.5;
+          error = u.6;
+        })))

@@ -21,8 +21,8 @@ use wac_ast_base::PackagePath;
 use wac_graph::{ItemKind, Rules};
 use wac_resolution_errors::Error;
 use wac_resolution_externs::Externs;
-use wac_resolution_nodes::Root;
-use wac_resolution_paths::{Context, path};
+use wac_resolution_nodes::Scope;
+use wac_resolution_paths::path;
 use wac_resolution_state::State;
 
 /// Rejects a composition that a world does not allow, or that does not meet its exports.
@@ -46,21 +46,20 @@ fn check_world<R: Rules>(
 /// Rejects a composition that is not what its target requires.
 pub fn check_target<R: Rules>(
     state: &mut State,
-    context: &Context<'_>,
-    rules: &R,
-    root: &Root<'_>,
+    scope: &Scope<'_, '_, R>,
     externs: &Externs,
     target: &PackagePath<'_>,
 ) -> Result<(), Error>
-    requires agrees { Agrees state.old.graph root.now }
-    requires supplied { AllSupplied (packages_in context.now) state.old.graph }
+    requires agrees { Agrees state.old.graph scope.now.root.now }
+    requires supplied { AllSupplied (packages_in scope.now.context.now) state.old.graph }
     requires placed { names_of (exported_in externs.now) ≡ names_of state.old.graph.exports }
-    ensures ok { OnOk result (Meets context.now (rules_of R.Rules rules.now) state.old.graph state.new.graph root.now
-        (package_path_of target.now)) }
-    ensures err { ErrorSays result (λ e. Unmeets context.now (rules_of R.Rules rules.now) state.old.graph root.now
-        (package_path_of target.now) (imported_in externs.now) (exported_in externs.now) e) }
+    ensures ok { OnOk result (Meets scope.now.context.now (rules_of R.Rules scope.now.rules.now) state.old.graph
+        state.new.graph scope.now.root.now (package_path_of target.now)) }
+    ensures err { ErrorSays result (λ e. Unmeets scope.now.context.now (rules_of R.Rules scope.now.rules.now)
+        state.old.graph scope.now.root.now (package_path_of target.now) (imported_in externs.now)
+        (exported_in externs.now) e) }
 {
-    let kind = path(state, context, &root.kinds, target)?;
+    let kind = path(state, scope.context, &scope.root.kinds, target)?;
     let world = world_of(state.alloc, kind, target)?;
     // Their contracts say that the graph is sound, and what the entries of its table mean.
     let _nodes = state.graph.nodes();
@@ -69,5 +68,5 @@ pub fn check_target<R: Rules>(
         path: target,
         world,
     };
-    check_world(state, rules, &target, externs)
+    check_world(state, scope.rules, &target, externs)
 }

@@ -13,8 +13,8 @@ ghost use Rattle.wac_resolution_rules.specs.Given.{rules_of};
 ghost use Rattle.wac_resolution_target.specs.Imported.{of_kind};
 ghost use Rattle.wac_resolution_target.specs.Testing.{testing, Met, Unmet, AllMet, SomeUnmet};
 
-use crate::imports::mismatch;
-use crate::target::{Target, passes};
+use crate::imports::{Extern, mismatch};
+use crate::target::{NamedKind, Target, passes};
 use indexmap::IndexMap;
 use std::alloc::{AllocError, Global};
 use wac_graph::names::find;
@@ -27,17 +27,16 @@ use wac_resolution_state::State;
 fn missing(
     alloc: Global,
     target: &Target<'_, '_>,
-    name: &str,
-    kind: ItemKind,
+    export: &NamedKind<'_>,
 ) -> Result<Error, AllocError>
     ensures { IfOk result (λ e. told e
-        ≡ missing_target_export name.now (package_path_of target.now.path.now).string (described kind)
-        (package_path_of target.now.path.now).span) }
+        ≡ missing_target_export export.now.name.now (package_path_of target.now.path.now).string
+        (described export.now.kind) (package_path_of target.now.path.now).span) }
 {
     Ok(Error::MissingTargetExport {
-        name: String::from_str(alloc, name)?,
+        name: String::from_str(alloc, export.name)?,
         world: String::from_str(alloc, target.path.string)?,
-        kind: kind.desc(),
+        kind: export.kind.desc(),
         span: target.path.span,
     })
 }
@@ -48,30 +47,34 @@ fn check_export<R: Rules>(
     rules: &R,
     target: &Target<'_, '_>,
     places: &IndexMap<String, SourceSpan>,
-    name: &str,
-    kind: ItemKind,
+    export: &NamedKind<'_>,
 ) -> Result<(), Error>
-    requires named { Names state.now.graph.types kind }
+    requires named { Names state.now.graph.types export.now.kind }
     requires placed { names_of (by_name places.now.entries) ≡ names_of state.now.graph.exports }
     ensures ok { OnOk result (Met (testing state.now.graph (rules_of R.Rules rules.now) target.now)
-        (of_kind state.now.graph (name.now, kind))) }
+        (of_kind state.now.graph (export.now.name.now, export.now.kind))) }
     ensures err { ErrorSays result (λ e. Unmet (testing state.now.graph (rules_of R.Rules rules.now) target.now)
-        (by_name places.now.entries) (of_kind state.now.graph (name.now, kind)) e) }
+        (by_name places.now.entries) (of_kind state.now.graph (export.now.name.now, export.now.kind)) e) }
 {
-    let Some(node) = state.graph.get_export(name) else {
-        return Err(missing(state.alloc, target, name, kind)?);
+    let Some(node) = state.graph.get_export(export.name) else {
+        return Err(missing(state.alloc, target, export)?);
     };
     let exported = state.graph.kind(node);
-    match passes(state, rules, exported, kind.promote()) {
+    match passes(state, rules, exported, export.kind.promote()) {
         Ok(()) => Ok(()),
-        Err(reason) => Err(mismatch(
-            state.alloc,
-            ExternKind::Export,
-            target,
-            name,
-            reason,
-            find(places, name),
-        )?),
+        Err(reason) => {
+            let tested = Extern {
+                side: ExternKind::Export,
+                name: export.name,
+            };
+            Err(mismatch(
+                state.alloc,
+                target,
+                &tested,
+                reason,
+                find(places, export.name),
+            )?)
+        }
     }
 }
 
@@ -91,7 +94,11 @@ fn check_each<R: Rules>(
         (by_name places.now.entries) (of_kind state.now.graph) (by_name exports.now.entries) e) }
 {
     for (name, kind) in exports.iter() {
-        check_export(state, rules, target, places, name.as_str(), *kind)?;
+        let export = NamedKind {
+            name: name.as_str(),
+            kind: *kind,
+        };
+        check_export(state, rules, target, places, &export)?;
     }
     Ok(())
 }

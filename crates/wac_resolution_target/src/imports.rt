@@ -12,7 +12,7 @@ ghost use Rattle.wac_resolution_target.specs.Imported.{of_node, of_kind};
 ghost use Rattle.wac_resolution_target.specs.Testing.{testing, Allowed, Denied, AllAllowed, SomeDenied};
 
 use crate::allowed::allowed;
-use crate::target::{Target, passes};
+use crate::target::{NamedKind, Target, passes};
 use indexmap::IndexMap;
 use std::alloc::{AllocError, Global};
 use wac_graph::names::find;
@@ -38,21 +38,30 @@ fn not_in_target(
     })
 }
 
+/// An import or an export, by its name.
+#[derive(Clone, Copy)]
+pub(crate) struct Extern<'n> {
+    /// Which of the two.
+    pub side: ExternKind,
+    /// The name.
+    pub name: &'n str,
+}
+
 /// What is reported of an import or export that does not fit the target.
 pub(crate) fn mismatch(
     alloc: Global,
-    kind: ExternKind,
     target: &Target<'_, '_>,
-    name: &str,
+    tested: &Extern<'_>,
     source: Reason,
     span: Option<SourceSpan>,
 ) -> Result<Error, AllocError>
     ensures { IfOk result (λ e. told e
-        ≡ target_mismatch kind name.now (package_path_of target.now.path.now).string source span) }
+        ≡ target_mismatch tested.now.side tested.now.name.now (package_path_of target.now.path.now).string source
+        span) }
 {
     Ok(Error::TargetMismatch {
-        kind,
-        name: String::from_str(alloc, name)?,
+        kind: tested.side,
+        name: String::from_str(alloc, tested.name)?,
         world: String::from_str(alloc, target.path.string)?,
         source,
         span,
@@ -64,23 +73,28 @@ pub(crate) fn check_import<R: Rules>(
     state: &State,
     rules: &R,
     target: &Target<'_, '_>,
-    name: &str,
-    kind: ItemKind,
+    import: &NamedKind<'_>,
     span: Option<SourceSpan>,
 ) -> Result<(), Error>
     requires world { Names state.now.graph.types (ItemKind.Component target.now.world) }
-    requires named { Names state.now.graph.types kind }
+    requires named { Names state.now.graph.types import.now.kind }
     ensures ok { OnOk result (Allowed (testing state.now.graph (rules_of R.Rules rules.now) target.now)
-        (of_kind state.now.graph (name.now, kind))) }
+        (of_kind state.now.graph (import.now.name.now, import.now.kind))) }
     ensures err { ErrorSays result (λ e. Denied (testing state.now.graph (rules_of R.Rules rules.now) target.now)
-        (of_kind state.now.graph (name.now, kind)) span e) }
+        (of_kind state.now.graph (import.now.name.now, import.now.kind)) span e) }
 {
-    let Some(wanted) = allowed(state, target.world, name) else {
-        return Err(not_in_target(state.alloc, target, name, span)?);
+    let Some(wanted) = allowed(state, target.world, import.name) else {
+        return Err(not_in_target(state.alloc, target, import.name, span)?);
     };
-    match passes(state, rules, wanted.promote(), kind) {
+    match passes(state, rules, wanted.promote(), import.kind) {
         Ok(()) => Ok(()),
-        Err(reason) => Err(mismatch(state.alloc, ExternKind::Import, target, name, reason, span)?),
+        Err(reason) => {
+            let tested = Extern {
+                side: ExternKind::Import,
+                name: import.name,
+            };
+            Err(mismatch(state.alloc, target, &tested, reason, span)?)
+        }
     }
 }
 
@@ -100,7 +114,7 @@ pub(crate) fn check_imports<R: Rules>(
     for (name, node) in state.graph.imports() {
         let kind = state.graph.kind(node);
         let span = find(places, name);
-        check_import(state, rules, target, name, kind, span)?;
+        check_import(state, rules, target, &NamedKind { name, kind }, span)?;
     }
     Ok(())
 }

@@ -10,7 +10,7 @@ ghost use Rattle.wac_resolution_target.specs.Imported.{of_kind, left_open, packa
 ghost use Rattle.wac_resolution_target.specs.Testing.{testing, AllAllowed, SomeDenied, nowhere};
 
 use crate::imports::check_import;
-use crate::target::Target;
+use crate::target::{NamedKind, Target};
 use indexmap::IndexMap;
 use wac_graph::{ItemKind, NodeId, PackageId, Rules};
 use wac_resolution_errors::Error;
@@ -22,21 +22,21 @@ fn check_open_import<R: Rules>(
     rules: &R,
     target: &Target<'_, '_>,
     node: NodeId,
-    name: &str,
-    kind: ItemKind,
+    import: &NamedKind<'_>,
 ) -> Result<(), Error>
     requires world { Names state.now.graph.types (ItemKind.Component target.now.world) }
-    requires named { Names state.now.graph.types kind }
+    requires named { Names state.now.graph.types import.now.kind }
     requires there { node.0 < length state.now.graph.nodes }
     ensures ok { OnOk result (AllAllowed (testing state.now.graph (rules_of R.Rules rules.now) target.now)
-        (of_kind state.now.graph) (left_open (arguments_of state.now.graph node.0) ((name.now, kind) ∷ []))) }
+        (of_kind state.now.graph)
+        (left_open (arguments_of state.now.graph node.0) ((import.now.name.now, import.now.kind) ∷ []))) }
     ensures err { ErrorSays result (λ e. SomeDenied (testing state.now.graph (rules_of R.Rules rules.now) target.now)
         (of_kind state.now.graph) nowhere
-        (left_open (arguments_of state.now.graph node.0) ((name.now, kind) ∷ [])) e) }
+        (left_open (arguments_of state.now.graph node.0) ((import.now.name.now, import.now.kind) ∷ [])) e) }
 {
-    match state.graph.argument(node, name) {
+    match state.graph.argument(node, import.name) {
         Some(_) => Ok(()),
-        None => check_import(state, rules, target, name, kind, None),
+        None => check_import(state, rules, target, import, None),
     }
 }
 
@@ -58,7 +58,11 @@ fn check_left_open<R: Rules>(
         (left_open (arguments_of state.now.graph node.0) (by_name imports.now.entries)) e) }
 {
     for (name, kind) in imports.iter() {
-        check_open_import(state, rules, target, node, name.as_str(), *kind)?;
+        let import = NamedKind {
+            name: name.as_str(),
+            kind: *kind,
+        };
+        check_open_import(state, rules, target, node, &import)?;
     }
     Ok(())
 }

@@ -17,6 +17,15 @@ pub(crate) struct Target<'x, 'a> {
     pub world: WorldId,
 }
 
+/// A name, and the kind of what is imported or exported under it.
+#[derive(Clone, Copy)]
+pub(crate) struct NamedKind<'n> {
+    /// The name.
+    pub name: &'n str,
+    /// The kind.
+    pub kind: ItemKind,
+}
+
 /// Whether the first fits where the second is expected.
 pub(crate) fn passes<R: Rules>(
     state: &State,

@@ -14,13 +14,14 @@ ghost use Rattle.wac_resolution_paths.specs.Context.{packages_in, context_of};
 ghost use Rattle.wac_resolution_worlds.specs.Declared.{id_text, InterfaceDeclared, WorldDeclared};
 
 use crate::interfaces::interface;
+use crate::outer_scope::OuterScope;
 use crate::worlds::world;
 use std::alloc::{AllocError, Global};
 use wac_ast_worlds::{InterfaceDecl, WorldDecl, WorldItem};
 use wac_graph::{ItemKind, Type};
 use wac_resolution_errors::Error;
 use wac_resolution_paths::Context;
-use wac_resolution_state::{Names, State};
+use wac_resolution_state::State;
 
 /// Adds a version after `@`, if there is one.
 fn push_version(text: &mut String, version: Option<&str>) -> Result<(), AllocError>
@@ -51,21 +52,21 @@ fn declared_id(alloc: Global, context: &Context<'_>, name: &str) -> Result<Strin
 /// The kind of a declared interface.
 pub fn interface_decl(
     state: &mut State,
-    context: &Context<'_>,
-    root: &Names<'_, ItemKind>,
+    outer: &OuterScope<'_>,
     decl: &InterfaceDecl<'_>,
 ) -> Result<ItemKind, Error>
-    requires root { ItemsNamed state.old.graph.types (values_of root.now) }
-    requires supplied { AllSupplied (packages_in context.now) state.old.graph }
-    ensures ok { IfOk result (λ k. InterfaceDeclared context.now state.old.graph state.new.graph (values_of root.now)
-        (interface_decl_of decl.now) k) }
+    requires root { ItemsNamed state.old.graph.types (values_of outer.now.root.now) }
+    requires supplied { AllSupplied (packages_in outer.now.context.now) state.old.graph }
+    ensures ok { IfOk result (λ k. InterfaceDeclared outer.now.context.now state.old.graph state.new.graph
+        (values_of outer.now.root.now) (interface_decl_of decl.now) k) }
     ensures err { ErrorSays result (λ e. (naming : Naming)
-        → InterfaceBroken (context_of naming context.now) (scope_of naming state.old.graph (values_of root.now))
-        (Some decl.now.id.string.now) (declared_count state.old.graph) (interface_decl_of decl.now).items e) }
+        → InterfaceBroken (context_of naming outer.now.context.now)
+        (scope_of naming state.old.graph (values_of outer.now.root.now)) (Some decl.now.id.string.now)
+        (declared_count state.old.graph) (interface_decl_of decl.now).items e) }
 {
-    let id = declared_id(state.alloc, context, decl.id.string)?;
+    let id = declared_id(state.alloc, outer.context, decl.id.string)?;
     let name = Some(decl.id.string);
-    let declared = interface(state, context, root, Some(id), name, &decl.items)?;
+    let declared = interface(state, outer, Some(id), name, &decl.items)?;
     Ok(ItemKind::Ty(Type::Interface(declared)))
 }
 
@@ -79,21 +80,21 @@ fn items_of<'x, 'a>(decl: &'x WorldDecl<'a>) -> &'x [WorldItem<'a>]
 /// The kind of a declared world of a name and items.
 fn world_of(
     state: &mut State,
-    context: &Context<'_>,
-    root: &Names<'_, ItemKind>,
+    outer: &OuterScope<'_>,
     name: &str,
     items: &[WorldItem<'_>],
 ) -> Result<ItemKind, Error>
-    requires root { ItemsNamed state.old.graph.types (values_of root.now) }
-    requires supplied { AllSupplied (packages_in context.now) state.old.graph }
-    ensures ok { IfOk result (λ k. WorldDeclared context.now state.old.graph state.new.graph (values_of root.now)
-        name.now (map world_item_of items.now) k) }
+    requires root { ItemsNamed state.old.graph.types (values_of outer.now.root.now) }
+    requires supplied { AllSupplied (packages_in outer.now.context.now) state.old.graph }
+    ensures ok { IfOk result (λ k. WorldDeclared outer.now.context.now state.old.graph state.new.graph
+        (values_of outer.now.root.now) name.now (map world_item_of items.now) k) }
     ensures err { ErrorSays result (λ e. (naming : Naming)
-        → WorldBroken (context_of naming context.now) (scope_of naming state.old.graph (values_of root.now)) name.now
-        (declared_count state.old.graph) (map world_item_of items.now) e) }
+        → WorldBroken (context_of naming outer.now.context.now)
+        (scope_of naming state.old.graph (values_of outer.now.root.now)) name.now (declared_count state.old.graph)
+        (map world_item_of items.now) e) }
 {
-    let id = declared_id(state.alloc, context, name)?;
-    let declared = world(state, context, root, Some(id), name, items)?;
+    let id = declared_id(state.alloc, outer.context, name)?;
+    let declared = world(state, outer, Some(id), name, items)?;
     Ok(ItemKind::Ty(Type::World(declared)))
 }
 
@@ -101,16 +102,16 @@ fn world_of(
 pub fn world_decl(
     decl: &WorldDecl<'_>,
     state: &mut State,
-    context: &Context<'_>,
-    root: &Names<'_, ItemKind>,
+    outer: &OuterScope<'_>,
 ) -> Result<ItemKind, Error>
-    requires root { ItemsNamed state.old.graph.types (values_of root.now) }
-    requires supplied { AllSupplied (packages_in context.now) state.old.graph }
-    ensures ok { IfOk result (λ k. WorldDeclared context.now state.old.graph state.new.graph (values_of root.now)
-        decl.now.id.string.now (world_decl_of decl.now).items k) }
+    requires root { ItemsNamed state.old.graph.types (values_of outer.now.root.now) }
+    requires supplied { AllSupplied (packages_in outer.now.context.now) state.old.graph }
+    ensures ok { IfOk result (λ k. WorldDeclared outer.now.context.now state.old.graph state.new.graph
+        (values_of outer.now.root.now) decl.now.id.string.now (world_decl_of decl.now).items k) }
     ensures err { ErrorSays result (λ e. (naming : Naming)
-        → WorldBroken (context_of naming context.now) (scope_of naming state.old.graph (values_of root.now))
-        decl.now.id.string.now (declared_count state.old.graph) (world_decl_of decl.now).items e) }
+        → WorldBroken (context_of naming outer.now.context.now)
+        (scope_of naming state.old.graph (values_of outer.now.root.now)) decl.now.id.string.now
+        (declared_count state.old.graph) (world_decl_of decl.now).items e) }
 {
-    world_of(state, context, root, decl.id.string, items_of(decl))
+    world_of(state, outer, decl.id.string, items_of(decl))
 }

@@ -21,41 +21,41 @@ ghost use Rattle.wac_resolution_worlds.specs.WorldItems.{ExternMade, IdentStep, 
 
 use crate::externs::named_extern;
 use crate::functions::new_func;
-use crate::instances::instance;
+use crate::instances::{NamedKind, instance};
 use crate::interfaces::interface;
+use crate::outer_scope::OuterScope;
 use wac_ast_base::{Ident, PackagePath};
 use wac_ast_worlds::{ExternType, NamedWorldItem, WorldItemPath};
-use wac_graph::{ExternKind, ItemKind};
-use wac_resolution_bodies::{Body, Owner, check_extern};
+use wac_graph::ItemKind;
+use wac_resolution_bodies::{Body, Section, check_extern};
 use wac_resolution_errors::Error;
-use wac_resolution_paths::{Context, path};
+use wac_resolution_paths::path;
 use wac_resolution_state::{Names, State, kind_of};
 
 /// The kind of an import or export that is given a name.
 fn extern_type(
     state: &mut State,
-    context: &Context<'_>,
-    root: &Names<'_, ItemKind>,
+    outer: &OuterScope<'_>,
     names: &Names<'_, ItemKind>,
     ty: &ExternType<'_>,
 ) -> Result<ItemKind, Error>
     requires names { ItemsNamed state.old.graph.types (values_of names.now) }
-    requires root { ItemsNamed state.old.graph.types (values_of root.now) }
-    requires supplied { AllSupplied (packages_in context.now) state.old.graph }
-    ensures ok { IfOk result (λ k. ExternMade context.now state.old.graph state.new.graph (values_of root.now)
-        (values_of names.now) (extern_type_of ty.now) k) }
+    requires root { ItemsNamed state.old.graph.types (values_of outer.now.root.now) }
+    requires supplied { AllSupplied (packages_in outer.now.context.now) state.old.graph }
+    ensures ok { IfOk result (λ k. ExternMade outer.now.context.now state.old.graph state.new.graph
+        (values_of outer.now.root.now) (values_of names.now) (extern_type_of ty.now) k) }
     ensures err { ErrorSays result (λ e. (naming : Naming)
-        → ExternTypeBroken (context_of naming context.now) (scope_of naming state.old.graph (values_of root.now))
-        (scope_of naming state.old.graph (values_of names.now)) (declared_count state.old.graph)
-        (extern_type_of ty.now) e) }
+        → ExternTypeBroken (context_of naming outer.now.context.now)
+        (scope_of naming state.old.graph (values_of outer.now.root.now))
+        (scope_of naming state.old.graph (values_of names.now)) (declared_count state.old.graph) (extern_type_of ty.now)
+        e) }
 {
     match ty {
-        ExternType::Ident(id) => Ok(named_extern(state.alloc, names, root, id)?),
+        ExternType::Ident(id) => Ok(named_extern(state.alloc, names, outer.root, id)?),
         ExternType::Func(func) => Ok(ItemKind::Func(new_func(state, names, func)?)),
         ExternType::Interface(inline) => Ok(ItemKind::Instance(interface(
             state,
-            context,
-            root,
+            outer,
             None,
             None,
             &inline.items,
@@ -66,52 +66,55 @@ fn extern_type(
 /// Takes an import or export that is given a name: the conflict first, then its type.
 fn named_item(
     state: &mut State,
-    context: &Context<'_>,
-    root: &Names<'_, ItemKind>,
+    outer: &OuterScope<'_>,
     body: &mut Body<'_>,
-    owner: &Owner<'_>,
-    side: ExternKind,
+    section: &Section<'_>,
     item: &NamedWorldItem<'_>,
 ) -> Result<(), Error>
     requires body { IsBody state.old.graph.types sides.Import (lists_of body.old) }
-    requires root { ItemsNamed state.old.graph.types (values_of root.now) }
-    requires supplied { AllSupplied (packages_in context.now) state.old.graph }
-    ensures ok { OnOk result (ExternStep context.now side state.old.graph state.new.graph (values_of root.now)
-        (lists_of body.old) (lists_of body.new) (PathTree.named (named_world_item_of item.now))) }
+    requires root { ItemsNamed state.old.graph.types (values_of outer.now.root.now) }
+    requires supplied { AllSupplied (packages_in outer.now.context.now) state.old.graph }
+    ensures ok { OnOk result (ExternStep outer.now.context.now section.now.side state.old.graph state.new.graph
+        (values_of outer.now.root.now) (lists_of body.old) (lists_of body.new)
+        (PathTree.named (named_world_item_of item.now))) }
     ensures err { ErrorSays result (λ e. (naming : Naming)
-        → ExternBroken (context_of naming context.now) (scope_of naming state.old.graph (values_of root.now))
-        (owner_of owner.now) side (body_of naming state.old.graph body.old)
-        (PathTree.named (named_world_item_of item.now)) e) }
+        → ExternBroken (context_of naming outer.now.context.now)
+        (scope_of naming state.old.graph (values_of outer.now.root.now)) (owner_of section.now.owner) section.now.side
+        (body_of naming state.old.graph body.old) (PathTree.named (named_world_item_of item.now)) e) }
 {
     let id = &item.id;
-    check_extern(state.alloc, body, owner, side, id.string, id.span)?;
-    let kind = extern_type(state, context, root, &body.names, &item.ty)?;
-    body.add(state.alloc, side, id.string, kind)?;
+    check_extern(state.alloc, body, section, id.string, id.span)?;
+    let kind = extern_type(state, outer, &body.names, &item.ty)?;
+    body.add(state.alloc, section.side, id.string, kind)?;
     Ok(())
 }
 
 /// Takes an import or export of what a path resolves to.
 fn path_item(
     state: &mut State,
-    context: &Context<'_>,
-    root: &Names<'_, ItemKind>,
+    outer: &OuterScope<'_>,
     body: &mut Body<'_>,
-    owner: &Owner<'_>,
-    side: ExternKind,
+    section: &Section<'_>,
     from: &PackagePath<'_>,
 ) -> Result<(), Error>
     requires body { IsBody state.old.graph.types sides.Import (lists_of body.old) }
-    requires root { ItemsNamed state.old.graph.types (values_of root.now) }
-    requires supplied { AllSupplied (packages_in context.now) state.old.graph }
-    ensures ok { OnOk result (ExternStep context.now side state.old.graph state.new.graph (values_of root.now)
-        (lists_of body.old) (lists_of body.new) (PathTree.path (package_path_of from.now))) }
+    requires root { ItemsNamed state.old.graph.types (values_of outer.now.root.now) }
+    requires supplied { AllSupplied (packages_in outer.now.context.now) state.old.graph }
+    ensures ok { OnOk result (ExternStep outer.now.context.now section.now.side state.old.graph state.new.graph
+        (values_of outer.now.root.now) (lists_of body.old) (lists_of body.new)
+        (PathTree.path (package_path_of from.now))) }
     ensures err { ErrorSays result (λ e. (naming : Naming)
-        → ExternBroken (context_of naming context.now) (scope_of naming state.old.graph (values_of root.now))
-        (owner_of owner.now) side (body_of naming state.old.graph body.old)
-        (PathTree.path (package_path_of from.now)) e) }
+        → ExternBroken (context_of naming outer.now.context.now)
+        (scope_of naming state.old.graph (values_of outer.now.root.now)) (owner_of section.now.owner) section.now.side
+        (body_of naming state.old.graph body.old) (PathTree.path (package_path_of from.now)) e) }
 {
-    let kind = path(state, context, root, from)?;
-    instance(state, body, owner, side, kind, from.string, from.span)?;
+    let kind = path(state, outer.context, outer.root, from)?;
+    let named = NamedKind {
+        kind,
+        text: from.string,
+        span: from.span,
+    };
+    instance(state, body, section, &named)?;
     Ok(())
 }
 
@@ -120,45 +123,48 @@ fn ident_item(
     state: &State,
     root: &Names<'_, ItemKind>,
     body: &mut Body<'_>,
-    owner: &Owner<'_>,
-    side: ExternKind,
+    section: &Section<'_>,
     id: &Ident<'_>,
 ) -> Result<(), Error>
     requires body { IsBody state.now.graph.types sides.Import (lists_of body.old) }
     requires root { ItemsNamed state.now.graph.types (values_of root.now) }
-    ensures ok { OnOk result (IdentStep side state.now.graph (values_of root.now) (lists_of body.old)
+    ensures ok { OnOk result (IdentStep section.now.side state.now.graph (values_of root.now) (lists_of body.old)
         (lists_of body.new) (ident_of id.now)) }
     ensures err { ErrorSays result (λ e. (naming : Naming) (context : rules.Context)
-        → ExternBroken context (scope_of naming state.now.graph (values_of root.now)) (owner_of owner.now) side
-        (body_of naming state.now.graph body.old) (PathTree.ident (ident_of id.now)) e) }
+        → ExternBroken context (scope_of naming state.now.graph (values_of root.now)) (owner_of section.now.owner)
+        section.now.side (body_of naming state.now.graph body.old) (PathTree.ident (ident_of id.now)) e) }
 {
     let kind = kind_of(state.alloc, root, id)?;
-    instance(state, body, owner, side, kind, id.string, id.span)?;
+    let named = NamedKind {
+        kind,
+        text: id.string,
+        span: id.span,
+    };
+    instance(state, body, section, &named)?;
     Ok(())
 }
 
 /// Takes an import or export.
 pub fn extern_item(
     state: &mut State,
-    context: &Context<'_>,
-    root: &Names<'_, ItemKind>,
+    outer: &OuterScope<'_>,
     body: &mut Body<'_>,
-    owner: &Owner<'_>,
-    side: ExternKind,
+    section: &Section<'_>,
     item: &WorldItemPath<'_>,
 ) -> Result<(), Error>
     requires body { IsBody state.old.graph.types sides.Import (lists_of body.old) }
-    requires root { ItemsNamed state.old.graph.types (values_of root.now) }
-    requires supplied { AllSupplied (packages_in context.now) state.old.graph }
-    ensures ok { OnOk result (ExternStep context.now side state.old.graph state.new.graph (values_of root.now)
-        (lists_of body.old) (lists_of body.new) (world_item_path_of item.now)) }
+    requires root { ItemsNamed state.old.graph.types (values_of outer.now.root.now) }
+    requires supplied { AllSupplied (packages_in outer.now.context.now) state.old.graph }
+    ensures ok { OnOk result (ExternStep outer.now.context.now section.now.side state.old.graph state.new.graph
+        (values_of outer.now.root.now) (lists_of body.old) (lists_of body.new) (world_item_path_of item.now)) }
     ensures err { ErrorSays result (λ e. (naming : Naming)
-        → ExternBroken (context_of naming context.now) (scope_of naming state.old.graph (values_of root.now))
-        (owner_of owner.now) side (body_of naming state.old.graph body.old) (world_item_path_of item.now) e) }
+        → ExternBroken (context_of naming outer.now.context.now)
+        (scope_of naming state.old.graph (values_of outer.now.root.now)) (owner_of section.now.owner) section.now.side
+        (body_of naming state.old.graph body.old) (world_item_path_of item.now) e) }
 {
     match item {
-        WorldItemPath::Named(item) => named_item(state, context, root, body, owner, side, item),
-        WorldItemPath::Package(from) => path_item(state, context, root, body, owner, side, from),
-        WorldItemPath::Ident(id) => ident_item(state, root, body, owner, side, id),
+        WorldItemPath::Named(item) => named_item(state, outer, body, section, item),
+        WorldItemPath::Package(from) => path_item(state, outer, body, section, from),
+        WorldItemPath::Ident(id) => ident_item(state, outer.root, body, section, id),
     }
 }

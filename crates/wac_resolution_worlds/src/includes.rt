@@ -18,47 +18,42 @@ ghost use Rattle.wac_resolution_bodies.specs.Lists.{lists_of};
 ghost use Rattle.wac_resolution_bodies.specs.Bodies.{body_of};
 ghost use Rattle.wac_resolution_worlds.specs.WorldItems.{AreNamed, IncludeStep, IncludeSteps};
 
+use crate::outer_scope::OuterScope;
 use wac_ast_uses::WorldInclude;
 use wac_ast_worlds::WorldItem;
-use wac_graph::ItemKind;
 use wac_resolution_bodies::Body;
 use wac_resolution_errors::Error;
 use wac_resolution_includes::{Inclusion, entries};
-use wac_resolution_paths::{Context, world_ref};
-use wac_resolution_state::{Names, State};
+use wac_resolution_paths::world_ref;
+use wac_resolution_state::State;
 
 /// Takes an include into the world of a name.
 fn include(
     state: &mut State,
-    context: &Context<'_>,
-    root: &Names<'_, ItemKind>,
+    outer: &OuterScope<'_>,
     body: &mut Body<'_>,
     world: &str,
     include: &WorldInclude<'_>,
 ) -> Result<(), Error>
     requires body { AreNamed state.old.graph.types (lists_of body.old) }
-    requires root { ItemsNamed state.old.graph.types (values_of root.now) }
-    requires supplied { AllSupplied (packages_in context.now) state.old.graph }
-    ensures ok { OnOk result (IncludeStep context.now state.old.graph state.new.graph (values_of root.now)
-        (lists_of body.old) (lists_of body.new) (world_include_of include.now)) }
+    requires root { ItemsNamed state.old.graph.types (values_of outer.now.root.now) }
+    requires supplied { AllSupplied (packages_in outer.now.context.now) state.old.graph }
+    ensures ok { OnOk result (IncludeStep outer.now.context.now state.old.graph state.new.graph
+        (values_of outer.now.root.now) (lists_of body.old) (lists_of body.new) (world_include_of include.now)) }
     ensures err { ErrorSays result (λ e. (naming : Naming) (before : List IncludeTree)
-        → IncludeBroken (context_of naming context.now) (scope_of naming state.old.graph (values_of root.now)) world.now
-        e (body_of naming state.old.graph body.old) before (world_include_of include.now)) }
+        → IncludeBroken (context_of naming outer.now.context.now)
+        (scope_of naming state.old.graph (values_of outer.now.root.now)) world.now e
+        (body_of naming state.old.graph body.old) before (world_include_of include.now)) }
 {
     let renamed = entries(state.alloc, &include.with)?;
-    let kind = world_ref(state, context, root, &include.world)?;
+    let kind = world_ref(state, outer.context, outer.root, &include.world)?;
     let inclusion = Inclusion {
         alloc: state.alloc,
+        graph: &state.graph,
         include,
         world,
     };
-    inclusion.take(
-        &state.graph,
-        kind,
-        renamed,
-        &mut body.imports,
-        &mut body.exports,
-    )?;
+    inclusion.take(kind, renamed, &mut body.imports, &mut body.exports)?;
     Ok(())
 }
 
@@ -75,25 +70,26 @@ fn include_in<'x, 'a>(item: &'x WorldItem<'a>) -> Option<&'x WorldInclude<'a>>
 /// Takes an item of a world, if it is an include.
 fn include_item(
     state: &mut State,
-    context: &Context<'_>,
-    root: &Names<'_, ItemKind>,
+    outer: &OuterScope<'_>,
     body: &mut Body<'_>,
     world: &str,
     item: &WorldItem<'_>,
 ) -> Result<(), Error>
     requires body { AreNamed state.old.graph.types (lists_of body.old) }
-    requires root { ItemsNamed state.old.graph.types (values_of root.now) }
-    requires supplied { AllSupplied (packages_in context.now) state.old.graph }
-    ensures ok { OnOk result (IncludeSteps context.now state.old.graph state.new.graph (values_of root.now)
-        (lists_of body.old) (lists_of body.new) (includes_of (world_item_of item.now ∷ []))) }
+    requires root { ItemsNamed state.old.graph.types (values_of outer.now.root.now) }
+    requires supplied { AllSupplied (packages_in outer.now.context.now) state.old.graph }
+    ensures ok { OnOk result (IncludeSteps outer.now.context.now state.old.graph state.new.graph
+        (values_of outer.now.root.now) (lists_of body.old) (lists_of body.new)
+        (includes_of (world_item_of item.now ∷ []))) }
     ensures err { ErrorSays result (λ e. (naming : Naming) (before : List IncludeTree)
         → (x : IncludeTree) × (include_of (world_item_of item.now) ≡ Some x)
-        × IncludeBroken (context_of naming context.now) (scope_of naming state.old.graph (values_of root.now)) world.now
-        e (body_of naming state.old.graph body.old) before x) }
+        × IncludeBroken (context_of naming outer.now.context.now)
+        (scope_of naming state.old.graph (values_of outer.now.root.now)) world.now e
+        (body_of naming state.old.graph body.old) before x) }
 {
     match include_in(item) {
         Some(clause) => {
-            include(state, context, root, body, world, clause)?;
+            include(state, outer, body, world, clause)?;
             Ok(())
         }
         None => Ok(()),
@@ -103,24 +99,26 @@ fn include_item(
 /// Takes the includes among the items of a world, in order.
 pub fn includes(
     state: &mut State,
-    context: &Context<'_>,
-    root: &Names<'_, ItemKind>,
+    outer: &OuterScope<'_>,
     body: &mut Body<'_>,
     world: &str,
     items: &[WorldItem<'_>],
 ) -> Result<(), Error>
     requires body { AreNamed state.old.graph.types (lists_of body.old) }
-    requires root { ItemsNamed state.old.graph.types (values_of root.now) }
-    requires supplied { AllSupplied (packages_in context.now) state.old.graph }
-    ensures ok { OnOk result (IncludeSteps context.now state.old.graph state.new.graph (values_of root.now)
-        (lists_of body.old) (lists_of body.new) (includes_of (map world_item_of items.now))) }
+    requires root { ItemsNamed state.old.graph.types (values_of outer.now.root.now) }
+    requires supplied { AllSupplied (packages_in outer.now.context.now) state.old.graph }
+    ensures ok { OnOk result (IncludeSteps outer.now.context.now state.old.graph state.new.graph
+        (values_of outer.now.root.now) (lists_of body.old) (lists_of body.new)
+        (includes_of (map world_item_of items.now))) }
     ensures err { ErrorSays result (λ e. (naming : Naming)
-        → Fails (HasInclude (context_of naming context.now) (scope_of naming state.old.graph (values_of root.now)))
-        (IncludeBroken (context_of naming context.now) (scope_of naming state.old.graph (values_of root.now))
-        world.now e) (body_of naming state.old.graph body.old) (includes_of (map world_item_of items.now))) }
+        → Fails (HasInclude (context_of naming outer.now.context.now)
+        (scope_of naming state.old.graph (values_of outer.now.root.now)))
+        (IncludeBroken (context_of naming outer.now.context.now)
+        (scope_of naming state.old.graph (values_of outer.now.root.now)) world.now e)
+        (body_of naming state.old.graph body.old) (includes_of (map world_item_of items.now))) }
 {
     for item in items {
-        include_item(state, context, root, body, world, item)?;
+        include_item(state, outer, body, world, item)?;
     }
     Ok(())
 }

@@ -14,11 +14,22 @@ ghost use Rattle.wac_resolution_bodies.specs.Owners.{owner_of};
 ghost use Rattle.wac_resolution_worlds.specs.WorldItems.{InstanceStep};
 
 use crate::used_interface::interface_of;
-use wac_graph::{CompositionGraph, ExternKind, InterfaceId, ItemKind};
+use wac_graph::{CompositionGraph, InterfaceId, ItemKind};
 use wac_lexer::SourceSpan;
-use wac_resolution_bodies::{Body, Owner, check_extern};
+use wac_resolution_bodies::{Body, Section, check_extern};
 use wac_resolution_errors::Error;
 use wac_resolution_state::State;
+
+/// What a path or an identifier resolves to, its text, and where that is.
+#[derive(Clone, Copy)]
+pub struct NamedKind<'n> {
+    /// What it resolves to.
+    pub kind: ItemKind,
+    /// Its text.
+    pub text: &'n str,
+    /// Where it is.
+    pub span: SourceSpan,
+}
 
 /// A text, which is empty if it is left out.
 fn text_or_empty(text: &Option<String>) -> &str
@@ -45,22 +56,20 @@ pub fn instance_id(graph: &CompositionGraph, interface: InterfaceId) -> &str
 pub fn instance(
     state: &State,
     body: &mut Body<'_>,
-    owner: &Owner<'_>,
-    side: ExternKind,
-    kind: ItemKind,
-    name: &str,
-    span: SourceSpan,
+    section: &Section<'_>,
+    named: &NamedKind<'_>,
 ) -> Result<(), Error>
     requires body { IsBody state.now.graph.types sides.Import (lists_of body.old) }
-    requires kind { Names state.now.graph.types kind }
-    ensures ok { OnOk result (InstanceStep state.now.graph side kind (lists_of body.old) (lists_of body.new)) }
+    requires kind { Names state.now.graph.types named.now.kind }
+    ensures ok { OnOk result (InstanceStep state.now.graph section.now.side named.now.kind (lists_of body.old)
+        (lists_of body.new)) }
     ensures err { ErrorSays result (λ e. (naming : Naming)
-        → InstanceBroken (owner_of owner.now) side (body_of naming state.now.graph body.old)
-        (means naming state.now.graph kind) name.now span e) }
+        → InstanceBroken (owner_of section.now.owner) section.now.side (body_of naming state.now.graph body.old)
+        (means naming state.now.graph named.now.kind) named.now.text.now named.now.span e) }
 {
-    let interface = interface_of(state.alloc, kind, name, span)?;
+    let interface = interface_of(state.alloc, named.kind, named.text, named.span)?;
     let id = instance_id(&state.graph, interface);
-    check_extern(state.alloc, body, owner, side, id, span)?;
-    body.add(state.alloc, side, id, ItemKind::Instance(interface))?;
+    check_extern(state.alloc, body, section, id, named.span)?;
+    body.add(state.alloc, section.side, id, ItemKind::Instance(interface))?;
     Ok(())
 }

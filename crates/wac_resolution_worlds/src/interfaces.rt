@@ -23,14 +23,14 @@ ghost use Rattle.wac_resolution_bodies.specs.Owners.{owner_of};
 ghost use Rattle.wac_resolution_worlds.specs.Made.{no_lists, FuncExportStep, InterfaceItemStep, InterfaceItemSteps, InterfaceOf, InterfaceMade};
 
 use crate::functions::func_ref;
+use crate::outer_scope::OuterScope;
 use crate::use_statements::use_statement;
 use std::alloc::AllocError;
 use wac_ast_worlds::{InterfaceExport, InterfaceItem};
 use wac_graph::{ExternKind, Interface, InterfaceId, ItemKind};
-use wac_resolution_bodies::{Body, Owner, check_extern};
+use wac_resolution_bodies::{Body, Owner, Section, check_extern};
 use wac_resolution_errors::Error;
-use wac_resolution_paths::Context;
-use wac_resolution_state::{Names, State};
+use wac_resolution_state::State;
 
 /// Takes the export of a function.
 fn interface_export(
@@ -49,14 +49,11 @@ fn interface_export(
 {
     let func = func_ref(state, &body.names, &export.ty)?;
     let id = &export.id;
-    check_extern(
-        state.alloc,
-        body,
-        owner,
-        ExternKind::Export,
-        id.string,
-        id.span,
-    )?;
+    let section = Section {
+        owner: *owner,
+        side: ExternKind::Export,
+    };
+    check_extern(state.alloc, body, &section, id.string, id.span)?;
     body.add(
         state.alloc,
         ExternKind::Export,
@@ -69,29 +66,31 @@ fn interface_export(
 /// Takes an item of an interface.
 fn interface_item<'a>(
     state: &mut State,
-    context: &Context<'_>,
-    root: &Names<'_, ItemKind>,
+    outer: &OuterScope<'_>,
     body: &mut Body<'a>,
     owner: &Owner<'_>,
     item: &InterfaceItem<'a>,
 ) -> Result<(), Error>
     requires body { IsBody state.old.graph.types sides.Export (lists_of body.old) }
-    requires root { ItemsNamed state.old.graph.types (values_of root.now) }
-    requires supplied { AllSupplied (packages_in context.now) state.old.graph }
-    ensures ok { OnOk result (InterfaceItemStep context.now state.old.graph state.new.graph (values_of root.now)
-        (lists_of body.old) (lists_of body.new) (interface_item_of item.now)) }
+    requires root { ItemsNamed state.old.graph.types (values_of outer.now.root.now) }
+    requires supplied { AllSupplied (packages_in outer.now.context.now) state.old.graph }
+    ensures ok { OnOk result (InterfaceItemStep outer.now.context.now state.old.graph state.new.graph
+        (values_of outer.now.root.now) (lists_of body.old) (lists_of body.new) (interface_item_of item.now)) }
     ensures err { ErrorSays result (λ e. (naming : Naming) (before : List ItemTree)
         → places_of body.old.names ≡ bound_in_interface before
-        → InterfaceItemBroken (context_of naming context.now) (scope_of naming state.old.graph (values_of root.now))
-        (owner_of owner.now) e (body_of naming state.old.graph body.old) before (interface_item_of item.now)) }
+        → InterfaceItemBroken (context_of naming outer.now.context.now)
+        (scope_of naming state.old.graph (values_of outer.now.root.now)) (owner_of owner.now) e
+        (body_of naming state.old.graph body.old) before (interface_item_of item.now)) }
 {
     match item {
-        InterfaceItem::Use(used) => {
-            use_statement(state, context, root, body, ExternKind::Export, used)
-        }
+        InterfaceItem::Use(used) => use_statement(state, outer, body, ExternKind::Export, used),
         InterfaceItem::Export(export) => interface_export(state, body, owner, export),
         InterfaceItem::Ty(decl) => {
-            wac_resolution_bodies::item(state, body, ExternKind::Export, owner, decl)
+            let section = Section {
+                owner: *owner,
+                side: ExternKind::Export,
+            };
+            wac_resolution_bodies::item(state, body, &section, decl)
         }
     }
 }
@@ -99,25 +98,25 @@ fn interface_item<'a>(
 /// Takes items of an interface, in order, into an empty body.
 fn interface_items<'a>(
     state: &mut State,
-    context: &Context<'_>,
-    root: &Names<'_, ItemKind>,
+    outer: &OuterScope<'_>,
     body: &mut Body<'a>,
     owner: &Owner<'_>,
     items: &[InterfaceItem<'a>],
 ) -> Result<(), Error>
     requires empty { lists_of body.old ≡ no_lists }
-    requires root { ItemsNamed state.old.graph.types (values_of root.now) }
-    requires supplied { AllSupplied (packages_in context.now) state.old.graph }
-    ensures ok { OnOk result (InterfaceItemSteps context.now state.old.graph state.new.graph (values_of root.now)
-        (lists_of body.old) (lists_of body.new) (map interface_item_of items.now)) }
+    requires root { ItemsNamed state.old.graph.types (values_of outer.now.root.now) }
+    requires supplied { AllSupplied (packages_in outer.now.context.now) state.old.graph }
+    ensures ok { OnOk result (InterfaceItemSteps outer.now.context.now state.old.graph state.new.graph
+        (values_of outer.now.root.now) (lists_of body.old) (lists_of body.new) (map interface_item_of items.now)) }
     ensures err { ErrorSays result (λ e. (naming : Naming)
-        → Fails (HasInterfaceItem (context_of naming context.now)
-        (scope_of naming state.old.graph (values_of root.now)))
-        (InterfaceItemBroken (context_of naming context.now) (scope_of naming state.old.graph (values_of root.now))
-        (owner_of owner.now) e) (body_of naming state.old.graph body.old) (map interface_item_of items.now)) }
+        → Fails (HasInterfaceItem (context_of naming outer.now.context.now)
+        (scope_of naming state.old.graph (values_of outer.now.root.now)))
+        (InterfaceItemBroken (context_of naming outer.now.context.now)
+        (scope_of naming state.old.graph (values_of outer.now.root.now)) (owner_of owner.now) e)
+        (body_of naming state.old.graph body.old) (map interface_item_of items.now)) }
 {
     for item in items {
-        interface_item(state, context, root, body, owner, item)?;
+        interface_item(state, outer, body, owner, item)?;
     }
     Ok(())
 }
@@ -139,22 +138,22 @@ fn finish_interface(
 /// Adds an interface of items, which may have an id, and a name for errors.
 pub fn interface(
     state: &mut State,
-    context: &Context<'_>,
-    root: &Names<'_, ItemKind>,
+    outer: &OuterScope<'_>,
     id: Option<String>,
     name: Option<&str>,
     items: &[InterfaceItem<'_>],
 ) -> Result<InterfaceId, Error>
-    requires root { ItemsNamed state.old.graph.types (values_of root.now) }
-    requires supplied { AllSupplied (packages_in context.now) state.old.graph }
-    ensures ok { IfOk result (λ i. InterfaceMade context.now state.old.graph state.new.graph (values_of root.now)
-        (option_map string_bytes id) (map interface_item_of items.now) i) }
+    requires root { ItemsNamed state.old.graph.types (values_of outer.now.root.now) }
+    requires supplied { AllSupplied (packages_in outer.now.context.now) state.old.graph }
+    ensures ok { IfOk result (λ i. InterfaceMade outer.now.context.now state.old.graph state.new.graph
+        (values_of outer.now.root.now) (option_map string_bytes id) (map interface_item_of items.now) i) }
     ensures err { ErrorSays result (λ e. (naming : Naming)
-        → InterfaceBroken (context_of naming context.now) (scope_of naming state.old.graph (values_of root.now))
-        (option_map (λ n. n.now) name.entry) (declared_count state.old.graph) (map interface_item_of items.now) e) }
+        → InterfaceBroken (context_of naming outer.now.context.now)
+        (scope_of naming state.old.graph (values_of outer.now.root.now)) (option_map (λ n. n.now) name.entry)
+        (declared_count state.old.graph) (map interface_item_of items.now) e) }
 {
     let mut body = Body::new(state.alloc);
     let owner = Owner::Interface(name);
-    interface_items(state, context, root, &mut body, &owner, items)?;
+    interface_items(state, outer, &mut body, &owner, items)?;
     Ok(finish_interface(state, id, body)?)
 }

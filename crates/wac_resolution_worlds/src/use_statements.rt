@@ -13,31 +13,32 @@ ghost use Rattle.wac_resolution_bodies.specs.Lists.{lists_of};
 ghost use Rattle.wac_resolution_bodies.specs.Bodies.{body_of, IsBody};
 ghost use Rattle.wac_resolution_worlds.specs.UseStatements.{IsInterface, IsNoneNamed, UseStatementStep};
 
+use crate::outer_scope::OuterScope;
 use crate::used_interface::{interface_of, path_name, path_span};
+use crate::used_item::UsedInterface;
 use crate::used_items::use_items;
 use wac_ast_uses::{Use, UsePath};
-use wac_graph::{ExternKind, InterfaceId, ItemKind};
+use wac_graph::{ExternKind, InterfaceId};
 use wac_resolution_bodies::Body;
 use wac_resolution_errors::Error;
-use wac_resolution_paths::{Context, use_path};
-use wac_resolution_state::{Names, State};
+use wac_resolution_paths::use_path;
+use wac_resolution_state::State;
 
 /// The interface that a path or an identifier names.
 fn used_interface(
     state: &mut State,
-    context: &Context<'_>,
-    root: &Names<'_, ItemKind>,
+    outer: &OuterScope<'_>,
     path: &UsePath<'_>,
 ) -> Result<InterfaceId, Error>
-    requires root { ItemsNamed state.old.graph.types (values_of root.now) }
-    requires supplied { AllSupplied (packages_in context.now) state.old.graph }
-    ensures ok { IfOk result (λ i. IsInterface context.now state.old.graph state.new.graph (values_of root.now)
-        (use_path_of path.now) i) }
+    requires root { ItemsNamed state.old.graph.types (values_of outer.now.root.now) }
+    requires supplied { AllSupplied (packages_in outer.now.context.now) state.old.graph }
+    ensures ok { IfOk result (λ i. IsInterface outer.now.context.now state.old.graph state.new.graph
+        (values_of outer.now.root.now) (use_path_of path.now) i) }
     ensures err { ErrorSays result (λ e. (naming : Naming)
-        → IsNoneNamed (context_of naming context.now) (scope_of naming state.old.graph (values_of root.now))
-        (use_path_of path.now) e) }
+        → IsNoneNamed (context_of naming outer.now.context.now)
+        (scope_of naming state.old.graph (values_of outer.now.root.now)) (use_path_of path.now) e) }
 {
-    let kind = use_path(state, context, root, path)?;
+    let kind = use_path(state, outer.context, outer.root, path)?;
     let name = path_name(path);
     let interface = interface_of(state.alloc, kind, name, path_span(path))?;
     Ok(interface)
@@ -46,23 +47,24 @@ fn used_interface(
 /// Takes the used types from an interface.
 pub(crate) fn use_statement<'a>(
     state: &mut State,
-    context: &Context<'_>,
-    root: &Names<'_, ItemKind>,
+    outer: &OuterScope<'_>,
     body: &mut Body<'a>,
     side: ExternKind,
     statement: &Use<'a>,
 ) -> Result<(), Error>
     requires body { IsBody state.old.graph.types side (lists_of body.old) }
-    requires root { ItemsNamed state.old.graph.types (values_of root.now) }
-    requires supplied { AllSupplied (packages_in context.now) state.old.graph }
-    ensures ok { OnOk result (UseStatementStep context.now side state.old.graph state.new.graph (values_of root.now)
-        (lists_of body.old) (lists_of body.new) (use_of statement.now)) }
+    requires root { ItemsNamed state.old.graph.types (values_of outer.now.root.now) }
+    requires supplied { AllSupplied (packages_in outer.now.context.now) state.old.graph }
+    ensures ok { OnOk result (UseStatementStep outer.now.context.now side state.old.graph state.new.graph
+        (values_of outer.now.root.now) (lists_of body.old) (lists_of body.new) (use_of statement.now)) }
     ensures err { ErrorSays result (λ e. (naming : Naming)
-        → UseBroken (context_of naming context.now) (scope_of naming state.old.graph (values_of root.now)) side
-        (body_of naming state.old.graph body.old) (use_of statement.now) e) }
+        → UseBroken (context_of naming outer.now.context.now)
+        (scope_of naming state.old.graph (values_of outer.now.root.now)) side (body_of naming state.old.graph body.old)
+        (use_of statement.now) e) }
 {
-    let interface = used_interface(state, context, root, &statement.path)?;
+    let interface = used_interface(state, outer, &statement.path)?;
     let path = path_name(&statement.path);
-    use_items(state, body, side, interface, path, &statement.items)?;
+    let used = UsedInterface { interface, path };
+    use_items(state, body, side, &used, &statement.items)?;
     Ok(())
 }

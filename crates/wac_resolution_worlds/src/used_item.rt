@@ -23,6 +23,15 @@ use wac_resolution_bodies::Body;
 use wac_resolution_errors::Error;
 use wac_resolution_state::State;
 
+/// An interface whose types are used, and the path or identifier that names it.
+#[derive(Clone, Copy)]
+pub struct UsedInterface<'p> {
+    /// The interface.
+    pub interface: InterfaceId,
+    /// The text of the path or identifier.
+    pub path: &'p str,
+}
+
 /// The identifier that a used type has here.
 pub(crate) fn used_as<'x, 'a>(item: &'x UseItem<'a>) -> &'x Ident<'a>
     ensures { ident_of result.now ≡ used_by (use_item_of item.now) }
@@ -54,25 +63,21 @@ fn help_of_use(item: &UseItem<'_>) -> Option<&'static str>
 }
 
 /// What an interface exports under the name of a used type.
-fn exported(
-    state: &State,
-    interface: InterfaceId,
-    path: &str,
-    item: &UseItem<'_>,
-) -> Result<ItemKind, Error>
-    requires { NamesEntry state.now.graph.types (kinds.Instance interface) }
-    ensures ok { IfOk result (λ k. IsThere state.now.graph interface (use_item_of item.now) k) }
+fn exported(state: &State, used: &UsedInterface<'_>, item: &UseItem<'_>) -> Result<ItemKind, Error>
+    requires { NamesEntry state.now.graph.types (kinds.Instance used.now.interface) }
+    ensures ok { IfOk result (λ k. IsThere state.now.graph used.now.interface (use_item_of item.now) k) }
     ensures err { ErrorSays result (λ e. (naming : Naming)
-        → IsNoTypeThere (means naming state.now.graph (kinds.Instance interface)) path.now (use_item_of item.now) e) }
+        → IsNoTypeThere (means naming state.now.graph (kinds.Instance used.now.interface)) used.now.path.now
+        (use_item_of item.now) e) }
 {
     match state
         .graph
-        .export(ItemKind::Instance(interface), item.id.string)
+        .export(ItemKind::Instance(used.interface), item.id.string)
     {
         Some(kind) => Ok(kind),
         None => Err(Error::UndefinedInterfaceType {
             name: String::from_str(state.alloc, item.id.string)?,
-            interface_name: String::from_str(state.alloc, path)?,
+            interface_name: String::from_str(state.alloc, used.path)?,
             span: item.id.span,
         }),
     }
@@ -82,23 +87,24 @@ fn exported(
 #[tactic(auto, using(crate::proofs::UsedItems::kinds_used))]
 pub(crate) fn used_kind(
     state: &State,
-    interface: InterfaceId,
-    path: &str,
+    used: &UsedInterface<'_>,
     item: &UseItem<'_>,
 ) -> Result<ItemKind, Error>
-    requires { NamesEntry state.now.graph.types (kinds.Instance interface) }
-    ensures ok { IfOk result (λ k. IsUsed state.now.graph interface (use_item_of item.now) k) }
+    requires { NamesEntry state.now.graph.types (kinds.Instance used.now.interface) }
+    ensures ok { IfOk result (λ k. IsUsed state.now.graph used.now.interface (use_item_of item.now) k) }
     ensures err { ErrorSays result (λ e. (naming : Naming)
-        → IsNoTypeThere (means naming state.now.graph (kinds.Instance interface)) path.now (use_item_of item.now) e
-        ⊎ IsNoUsableType (means naming state.now.graph (kinds.Instance interface)) path.now (use_item_of item.now) e) }
+        → IsNoTypeThere (means naming state.now.graph (kinds.Instance used.now.interface)) used.now.path.now
+        (use_item_of item.now) e
+        ⊎ IsNoUsableType (means naming state.now.graph (kinds.Instance used.now.interface)) used.now.path.now
+        (use_item_of item.now) e) }
 {
-    match exported(state, interface, path, item)? {
+    match exported(state, used, item)? {
         ItemKind::Ty(Type::Resource(resource)) => Ok(ItemKind::Ty(Type::Resource(resource))),
         ItemKind::Ty(Type::Value(value)) => Ok(ItemKind::Ty(Type::Value(value))),
         other => Err(Error::NotInterfaceValueType {
             name: String::from_str(state.alloc, item.id.string)?,
             kind: other.desc(),
-            interface_name: String::from_str(state.alloc, path)?,
+            interface_name: String::from_str(state.alloc, used.path)?,
             span: item.id.span,
         }),
     }

@@ -14,9 +14,9 @@ ghost use Rattle.wac_resolution_bodies.specs.Lists.{lists_of};
 ghost use Rattle.wac_resolution_bodies.specs.Bodies.{body_of, IsBody};
 ghost use Rattle.wac_resolution_worlds.specs.Used.{UseStep, UseSteps};
 
-use crate::used_item::{check_use, renamed, used_as, used_kind};
+use crate::used_item::{UsedInterface, check_use, renamed, used_as, used_kind};
 use wac_ast_uses::UseItem;
-use wac_graph::{ExternKind, InterfaceId, UsedType};
+use wac_graph::{ExternKind, UsedType};
 use wac_resolution_bodies::Body;
 use wac_resolution_errors::Error;
 use wac_resolution_state::State;
@@ -26,22 +26,22 @@ fn use_item<'a>(
     state: &State,
     body: &mut Body<'a>,
     side: ExternKind,
-    interface: InterfaceId,
-    path: &str,
+    used: &UsedInterface<'_>,
     item: &UseItem<'a>,
 ) -> Result<(), Error>
     requires body { IsBody state.now.graph.types side (lists_of body.old) }
-    requires interface { NamesEntry state.now.graph.types (kinds.Instance interface) }
-    ensures ok { OnOk result (UseStep side state.now.graph interface (lists_of body.old) (lists_of body.new)
+    requires interface { NamesEntry state.now.graph.types (kinds.Instance used.now.interface) }
+    ensures ok { OnOk result (UseStep side state.now.graph used.now.interface (lists_of body.old) (lists_of body.new)
         (use_item_of item.now)) }
     ensures err { ErrorSays result (λ e. (naming : Naming) (before : List ItemTree)
-        → UseItemBroken side (means naming state.now.graph (kinds.Instance interface)) path.now e
+        → UseItemBroken side (means naming state.now.graph (kinds.Instance used.now.interface)) used.now.path.now e
         (body_of naming state.now.graph body.old) before (use_item_of item.now)) }
 {
-    let kind = used_kind(state, interface, path, item)?;
+    let kind = used_kind(state, used, item)?;
     check_use(state.alloc, body, side, item)?;
     let name = renamed(state.alloc, item)?;
     let id = used_as(item);
+    let interface = used.interface;
     body.add_use(state.alloc, id.string, UsedType { interface, name })?;
     body.bind(state.alloc, side, id, kind)?;
     Ok(())
@@ -52,21 +52,20 @@ pub(crate) fn use_items<'a>(
     state: &State,
     body: &mut Body<'a>,
     side: ExternKind,
-    interface: InterfaceId,
-    path: &str,
+    used: &UsedInterface<'_>,
     items: &[UseItem<'a>],
 ) -> Result<(), Error>
     requires body { IsBody state.now.graph.types side (lists_of body.old) }
-    requires interface { NamesEntry state.now.graph.types (kinds.Instance interface) }
-    ensures ok { OnOk result (UseSteps side state.now.graph interface (lists_of body.old) (lists_of body.new)
+    requires interface { NamesEntry state.now.graph.types (kinds.Instance used.now.interface) }
+    ensures ok { OnOk result (UseSteps side state.now.graph used.now.interface (lists_of body.old) (lists_of body.new)
         (map use_item_of items.now)) }
     ensures err { ErrorSays result (λ e. (naming : Naming)
-        → Fails (UsesItem side (means naming state.now.graph (kinds.Instance interface)))
-        (UseItemBroken side (means naming state.now.graph (kinds.Instance interface)) path.now e)
+        → Fails (UsesItem side (means naming state.now.graph (kinds.Instance used.now.interface)))
+        (UseItemBroken side (means naming state.now.graph (kinds.Instance used.now.interface)) used.now.path.now e)
         (body_of naming state.now.graph body.old) (map use_item_of items.now)) }
 {
     for item in items {
-        use_item(state, body, side, interface, path, item)?;
+        use_item(state, body, side, used, item)?;
     }
     Ok(())
 }

@@ -21,60 +21,56 @@ ghost use Rattle.wac_resolution_worlds.specs.Made.{no_lists};
 ghost use Rattle.wac_resolution_worlds.specs.WorldItems.{WorldItemStep, WorldItemSteps};
 
 use crate::extern_items::extern_item;
+use crate::outer_scope::OuterScope;
 use crate::use_statements::use_statement;
 use wac_ast_worlds::WorldItem;
-use wac_graph::{ExternKind, ItemKind};
-use wac_resolution_bodies::{Body, Owner};
+use wac_graph::ExternKind;
+use wac_resolution_bodies::{Body, Owner, Section};
 use wac_resolution_errors::Error;
-use wac_resolution_paths::Context;
-use wac_resolution_state::{Names, State};
+use wac_resolution_state::State;
 
 /// Takes an item of a world. Includes come afterwards.
 fn world_item<'a>(
     state: &mut State,
-    context: &Context<'_>,
-    root: &Names<'_, ItemKind>,
+    outer: &OuterScope<'_>,
     body: &mut Body<'a>,
     owner: &Owner<'_>,
     item: &WorldItem<'a>,
 ) -> Result<(), Error>
     requires body { IsBody state.old.graph.types sides.Import (lists_of body.old) }
-    requires root { ItemsNamed state.old.graph.types (values_of root.now) }
-    requires supplied { AllSupplied (packages_in context.now) state.old.graph }
-    ensures ok { OnOk result (WorldItemStep context.now state.old.graph state.new.graph (values_of root.now)
-        (lists_of body.old) (lists_of body.new) (world_item_of item.now)) }
+    requires root { ItemsNamed state.old.graph.types (values_of outer.now.root.now) }
+    requires supplied { AllSupplied (packages_in outer.now.context.now) state.old.graph }
+    ensures ok { OnOk result (WorldItemStep outer.now.context.now state.old.graph state.new.graph
+        (values_of outer.now.root.now) (lists_of body.old) (lists_of body.new) (world_item_of item.now)) }
     ensures err { ErrorSays result (λ e. (naming : Naming) (before : List ItemTree)
         → places_of body.old.names ≡ bound_in_world before
-        → WorldItemBroken (context_of naming context.now) (scope_of naming state.old.graph (values_of root.now))
-        (owner_of owner.now) e (body_of naming state.old.graph body.old) before (world_item_of item.now)) }
+        → WorldItemBroken (context_of naming outer.now.context.now)
+        (scope_of naming state.old.graph (values_of outer.now.root.now)) (owner_of owner.now) e
+        (body_of naming state.old.graph body.old) before (world_item_of item.now)) }
 {
     match item {
-        WorldItem::Use(used) => use_statement(state, context, root, body, ExternKind::Import, used),
+        WorldItem::Use(used) => use_statement(state, outer, body, ExternKind::Import, used),
         WorldItem::Import(import) => {
-            extern_item(
-                state,
-                context,
-                root,
-                body,
-                owner,
-                ExternKind::Import,
-                &import.path,
-            )
+            let section = Section {
+                owner: *owner,
+                side: ExternKind::Import,
+            };
+            extern_item(state, outer, body, &section, &import.path)
         }
         WorldItem::Export(export) => {
-            extern_item(
-                state,
-                context,
-                root,
-                body,
-                owner,
-                ExternKind::Export,
-                &export.path,
-            )
+            let section = Section {
+                owner: *owner,
+                side: ExternKind::Export,
+            };
+            extern_item(state, outer, body, &section, &export.path)
         }
         WorldItem::Include(_) => Ok(()),
         WorldItem::Ty(decl) => {
-            wac_resolution_bodies::item(state, body, ExternKind::Import, owner, decl)
+            let section = Section {
+                owner: *owner,
+                side: ExternKind::Import,
+            };
+            wac_resolution_bodies::item(state, body, &section, decl)
         }
     }
 }
@@ -82,24 +78,25 @@ fn world_item<'a>(
 /// Takes items of a world, in order, into an empty body.
 pub fn world_items<'a>(
     state: &mut State,
-    context: &Context<'_>,
-    root: &Names<'_, ItemKind>,
+    outer: &OuterScope<'_>,
     body: &mut Body<'a>,
     owner: &Owner<'_>,
     items: &[WorldItem<'a>],
 ) -> Result<(), Error>
     requires empty { lists_of body.old ≡ no_lists }
-    requires root { ItemsNamed state.old.graph.types (values_of root.now) }
-    requires supplied { AllSupplied (packages_in context.now) state.old.graph }
-    ensures ok { OnOk result (WorldItemSteps context.now state.old.graph state.new.graph (values_of root.now)
-        (lists_of body.old) (lists_of body.new) (map world_item_of items.now)) }
+    requires root { ItemsNamed state.old.graph.types (values_of outer.now.root.now) }
+    requires supplied { AllSupplied (packages_in outer.now.context.now) state.old.graph }
+    ensures ok { OnOk result (WorldItemSteps outer.now.context.now state.old.graph state.new.graph
+        (values_of outer.now.root.now) (lists_of body.old) (lists_of body.new) (map world_item_of items.now)) }
     ensures err { ErrorSays result (λ e. (naming : Naming)
-        → Fails (HasWorldItem (context_of naming context.now) (scope_of naming state.old.graph (values_of root.now)))
-        (WorldItemBroken (context_of naming context.now) (scope_of naming state.old.graph (values_of root.now))
-        (owner_of owner.now) e) (body_of naming state.old.graph body.old) (map world_item_of items.now)) }
+        → Fails (HasWorldItem (context_of naming outer.now.context.now)
+        (scope_of naming state.old.graph (values_of outer.now.root.now)))
+        (WorldItemBroken (context_of naming outer.now.context.now)
+        (scope_of naming state.old.graph (values_of outer.now.root.now)) (owner_of owner.now) e)
+        (body_of naming state.old.graph body.old) (map world_item_of items.now)) }
 {
     for item in items {
-        world_item(state, context, root, body, owner, item)?;
+        world_item(state, outer, body, owner, item)?;
     }
     Ok(())
 }

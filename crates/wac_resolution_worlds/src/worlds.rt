@@ -14,14 +14,14 @@ ghost use Rattle.wac_resolution_bodies.specs.Lists.{lists_of};
 ghost use Rattle.wac_resolution_worlds.specs.WorldItems.{AreNamed, WorldOf, WorldMade};
 
 use crate::includes::includes;
+use crate::outer_scope::OuterScope;
 use crate::world_items::world_items;
 use std::alloc::AllocError;
 use wac_ast_worlds::WorldItem;
-use wac_graph::{ItemKind, World, WorldId};
+use wac_graph::{World, WorldId};
 use wac_resolution_bodies::{Body, Owner};
 use wac_resolution_errors::Error;
-use wac_resolution_paths::Context;
-use wac_resolution_state::{Names, State};
+use wac_resolution_state::State;
 
 /// Adds a world with the uses, imports and exports of a body.
 fn finish_world(
@@ -50,23 +50,23 @@ fn finish_world(
 /// Adds a world of items, which may have an id, and a name for errors.
 pub fn world(
     state: &mut State,
-    context: &Context<'_>,
-    root: &Names<'_, ItemKind>,
+    outer: &OuterScope<'_>,
     id: Option<String>,
     name: &str,
     items: &[WorldItem<'_>],
 ) -> Result<WorldId, Error>
-    requires root { ItemsNamed state.old.graph.types (values_of root.now) }
-    requires supplied { AllSupplied (packages_in context.now) state.old.graph }
-    ensures ok { IfOk result (λ w. WorldMade context.now state.old.graph state.new.graph (values_of root.now)
-        (option_map string_bytes id) (map world_item_of items.now) w) }
+    requires root { ItemsNamed state.old.graph.types (values_of outer.now.root.now) }
+    requires supplied { AllSupplied (packages_in outer.now.context.now) state.old.graph }
+    ensures ok { IfOk result (λ w. WorldMade outer.now.context.now state.old.graph state.new.graph
+        (values_of outer.now.root.now) (option_map string_bytes id) (map world_item_of items.now) w) }
     ensures err { ErrorSays result (λ e. (naming : Naming)
-        → WorldBroken (context_of naming context.now) (scope_of naming state.old.graph (values_of root.now)) name.now
-        (declared_count state.old.graph) (map world_item_of items.now) e) }
+        → WorldBroken (context_of naming outer.now.context.now)
+        (scope_of naming state.old.graph (values_of outer.now.root.now)) name.now (declared_count state.old.graph)
+        (map world_item_of items.now) e) }
 {
     let mut body = Body::new(state.alloc);
     let owner = Owner::World(name);
-    world_items(state, context, root, &mut body, &owner, items)?;
-    includes(state, context, root, &mut body, name, items)?;
+    world_items(state, outer, &mut body, &owner, items)?;
+    includes(state, outer, &mut body, name, items)?;
     Ok(finish_world(state, id, body)?)
 }

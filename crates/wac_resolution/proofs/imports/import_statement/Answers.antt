@@ -8,7 +8,7 @@ returns-in_err-kind-clause-err g c =
     let p = err_from_is_err_and c.from_residual.result c.from_residual.ensures.1 in
     rw (p.1, p.2)
     (reports c.in_err-kind.ensures.err
-    (type_breaks c.args.context.now (rules_of g.R.Rules c.args.rules.now) c.args.state.now.graph c.args.root.now c.args.externs.now (import_statement_of c.args.statement.now) (told c.in_err-kind.field-0.0)))
+    (type_breaks c.args.given.now.context.now (rules_of g.R.Rules c.args.given.now.rules.now) c.args.state.now.graph c.args.root.now c.args.externs.now (import_statement_of c.args.statement.now) (told c.in_err-kind.field-0.0)))
 
 pub import_kind-requires-clause-agrees : goal.import_kind-requires-clause-agrees
 import_kind-requires-clause-agrees g c = c.requires.agrees
@@ -36,7 +36,7 @@ import_as-requires-clause-kind g c = rw c.promote-item.ensures (promoted_named c
 pub returns-clause-ok : goal.returns-clause-ok
 returns-clause-ok g c =
     on_ok_weaker c.import_as.result
-    (λ i. statement_went c.args.context.now (rules_of g.R.Rules c.args.rules.now) c.args.state.now.graph c.import_kind.new.state.graph c.args.root.now c.args.externs.now (import_statement_of c.args.statement.now)
+    (λ i. statement_went c.args.given.now.context.now (rules_of g.R.Rules c.args.given.now.rules.now) c.args.state.now.graph c.import_kind.new.state.graph c.args.root.now c.args.externs.now (import_statement_of c.args.statement.now)
     c.as_str.result.now c.in_ok-kind.kind c.requires c.in_ok-kind.ensures.ok (λ naming. c.as_str.ensures.value ∙ c.in_ok-text.ensures naming)
     c.import_as.new.state.graph c.import_as.new.root c.import_as.new.externs (rw (sym c.promote-item.ensures) i))
     c.import_as.ensures.ok
@@ -44,6 +44,6 @@ returns-clause-ok g c =
 pub returns-clause-err : goal.returns-clause-err
 returns-clause-err g c =
     IfErr-weaker c.import_as.result _ _
-    (λ e h. reports h (name_breaks c.args.context.now (rules_of g.R.Rules c.args.rules.now) c.args.state.now.graph c.import_kind.new.state.graph c.args.root.now c.args.externs.now (import_statement_of c.args.statement.now)
+    (λ e h. reports h (name_breaks c.args.given.now.context.now (rules_of g.R.Rules c.args.given.now.rules.now) c.args.state.now.graph c.import_kind.new.state.graph c.args.root.now c.args.externs.now (import_statement_of c.args.statement.now)
     c.as_str.result.now c.in_ok-kind.kind c.requires c.in_ok-kind.ensures.ok (λ naming. c.as_str.ensures.value ∙ c.in_ok-text.ensures naming) (told e)))
     c.import_as.ensures.err

@@ -3,10 +3,10 @@ use Rattle.wac_resolution_bindings.proofs.Importing.{agrees_imported, import_the
 use Rattle.wac_resolution_bindings.proofs.named_imports.add_import.Goals as goal
 
 pub bind-requires-clause-there : goal.bind-requires-clause-there
-bind-requires-clause-there c = import_there c.args.state.now.graph c.add_import.new.self c.args.name.now.text.now c.args.kind c.in_ok-node.node.0 c.in_ok-node.ensures.ok c.in_ok-node.ensures.number
+bind-requires-clause-there c = import_there c.args.state.now.graph c.add_import.new.self c.args.name.now.text.now c.args.import.now.kind c.in_ok-node.node.0 c.in_ok-node.ensures.ok c.in_ok-node.ensures.number
 
 pub bind-requires-clause-agrees : goal.bind-requires-clause-agrees
-bind-requires-clause-agrees c = agrees_imported c.args.state.now.graph c.add_import.new.self c.args.root.now c.args.name.now.text.now c.args.kind c.in_ok-node.ensures.ok c.nodes-nodes.ensures.sound c.requires.agrees
+bind-requires-clause-agrees c = agrees_imported c.args.state.now.graph c.add_import.new.self c.args.root.now c.args.name.now.text.now c.args.import.now.kind c.in_ok-node.ensures.ok c.nodes-nodes.ensures.sound c.requires.agrees
 
 pub returns-in_err-bind-clause-err : goal.returns-in_err-bind-clause-err
 returns-in_err-bind-clause-err c =
@@ -18,5 +18,5 @@ add_import-requires-2 c = fresh_too c.args.name.now.text.now c.args.state.now.gr
 
 pub returns-clause-ok : goal.returns-clause-ok
 returns-clause-ok c =
-    adds_import c.args.state.now.graph c.add_import.new.self c.bind.new.state.graph c.args.root.now c.bind.new.self c.args.externs.now c.add_import-2.new.self (ident_of c.args.id.now) c.args.name.now.text.now c.args.name.now.span c.args.kind c.in_ok-node.node.0
+    adds_import c.args.state.now.graph c.add_import.new.self c.bind.new.state.graph c.args.root.now c.bind.new.self c.args.externs.now c.add_import-2.new.self (ident_of c.args.import.now.statement.now.id) c.args.name.now.text.now c.args.name.now.span c.args.import.now.kind c.in_ok-node.node.0
     c.in_ok-node.ensures.ok c.in_ok-node.ensures.number c.in_ok-bind.ensures.ok c.in_ok-add_import.ensures.imported c.in_ok-add_import.ensures.exported

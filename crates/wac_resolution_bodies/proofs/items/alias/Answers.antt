@@ -15,5 +15,5 @@ returns-in_err-declare-clause-err c =
 
 pub returns-clause-ok : goal.returns-clause-ok
 returns-clause-ok c =
-    alias_declared c.args.side c.args.state.now.graph c.alias.new.state.graph (lists_of c.args.body.now) (lists_of c.declare.new.body) (ItemTypeDecl.alias (type_alias_of c.args.decl.now)) _ c.in_ok-kind.kind
+    alias_declared c.args.section.now.side c.args.state.now.graph c.alias.new.state.graph (lists_of c.args.body.now) (lists_of c.declare.new.body) (ItemTypeDecl.alias (type_alias_of c.args.decl.now)) _ c.in_ok-kind.kind
     c.requires c.in_ok-kind.ensures.ok c.in_ok-declare.ensures.ok (λ naming m n after h d. (m, n, h, d))

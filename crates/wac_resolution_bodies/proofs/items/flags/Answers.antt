@@ -17,5 +17,5 @@ returns-in_err-declare-clause-err c =
 
 pub returns-clause-ok : goal.returns-clause-ok
 returns-clause-ok c =
-    value_declared c.args.side c.args.state.now.graph c.flags.new.state.graph (lists_of c.args.body.now) (lists_of c.declare.new.body) (ItemTypeDecl.flags (flags_decl_of c.args.decl.now)) _ c.in_ok-value.value
+    value_declared c.args.section.now.side c.args.state.now.graph c.flags.new.state.graph (lists_of c.args.body.now) (lists_of c.declare.new.body) (ItemTypeDecl.flags (flags_decl_of c.args.decl.now)) _ c.in_ok-value.value
     c.requires c.in_ok-value.ensures.ok c.in_ok-declare.ensures.ok (λ naming m after h d. (m, h, d))

@@ -16,5 +16,5 @@ returns-in_err-check_extern-clause-err c =
 
 pub returns-clause-ok : goal.returns-clause-ok
 returns-clause-ok c =
-    resource_goes c.args.side c.args.state.now.graph c.add_resource.new.self.graph (lists_of c.args.body.now) (lists_of c.bind.new.self) (ident_of c.args.id.now) c.in_ok-resource.resource
+    resource_goes c.args.section.now.side c.args.state.now.graph c.add_resource.new.self.graph (lists_of c.args.body.now) (lists_of c.bind.new.self) (ident_of c.args.id.now) c.in_ok-resource.resource
     c.in_ok-check_name.ensures.ok c.in_ok-check_extern.ensures.ok c.requires c.in_ok-resource.ensures c.in_ok-bind.ensures

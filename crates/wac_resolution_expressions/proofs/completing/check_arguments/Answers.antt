@@ -10,12 +10,12 @@ pub returns-clause-err : goal.returns-clause-err
 returns-clause-err g c =
     let given = by_name c.args.given.now.entries in
     let args = arguments_from (map argument_of c.args.new.now.arguments.items) in
-    let rules = rules_of g.R.Rules c.args.rules.now in
+    let rules = rules_of g.R.Rules c.args.scope.now.rules.now in
     let err = subst (λ (l : List InstantiationArgument). IfErr c.check_complete.result (λ e. Reports (told e) (IsIncomplete c.args.state.now.graph c.args.world (package_name_of c.args.new.now.«package») (arguments_from (map argument_of l)) (given_nodes (by_name c.args.given.now.entries)) (told e))))
     c.deref.ensures.value c.check_complete.ensures.err in
     IfErr-weaker c.check_complete.result (λ e. Reports (told e) (IsIncomplete c.args.state.now.graph c.args.world (package_name_of c.args.new.now.«package») args (given_nodes given) (told e)))
-    (λ e. Reports (told e) (AreWrong rules c.args.state.now.graph (numbers_of c.args.root.now.nodes) c.args.world (package_name_of c.args.new.now.«package») args given (told e)))
-    (λ e h. reports h (left_wrong rules c.args.state.now.graph (numbers_of c.args.root.now.nodes) c.args.world (package_name_of c.args.new.now.«package») args given (told e) c.in_ok-check_fit.ensures.ok)) err
+    (λ e. Reports (told e) (AreWrong rules c.args.state.now.graph (numbers_of c.args.scope.now.root.now.nodes) c.args.world (package_name_of c.args.new.now.«package») args given (told e)))
+    (λ e h. reports h (left_wrong rules c.args.state.now.graph (numbers_of c.args.scope.now.root.now.nodes) c.args.world (package_name_of c.args.new.now.«package») args given (told e) c.in_ok-check_fit.ensures.ok)) err
 
 pub returns-in_err-check_fit-clause-err : goal.returns-in_err-check_fit-clause-err
 returns-in_err-check_fit-clause-err g c =

@@ -6,7 +6,7 @@ use Rattle.wac_resolution_expressions.proofs.Standing.{InLoop}
 use Rattle.wac_resolution_expressions.proofs.expr.+expression.Given as goal
 
 abbrev pub invariant-arguments-loop-one : goal.invariant-arguments-loop-one
-invariant-arguments-loop-one g l = InLoop l.context (rules_of g.R.Rules l.rules) l.fn.state.graph (by_name l.fn.given.entries) (numbers_of l.root.nodes) l.world l.state.graph (by_name l.given.entries) l.arguments l.one-index l.left
+invariant-arguments-loop-one g l = InLoop l.scope.context.now (rules_of g.R.Rules l.scope.rules.now) l.fn.state.graph (by_name l.fn.given.entries) (numbers_of l.scope.root.now.nodes) l.world l.state.graph (by_name l.given.entries) l.arguments l.one-index l.left
 
 abbrev pub decreases-expression : goal.decreases-expression
 decreases-expression g l = 8 * size-Expr l.expr.now + 0
@@ -21,4 +21,4 @@ abbrev pub decreases-arguments : goal.decreases-arguments
 decreases-arguments g l = 8 * most size-InstantiationArgument l.arguments.now + 1
 
 abbrev pub decreases-argument : goal.decreases-argument
-decreases-argument g l = 8 * size-InstantiationArgument l.argument.now + 0
+decreases-argument g l = 8 * size-InstantiationArgument l.next.now.argument.now + 0

@@ -14,5 +14,5 @@ add_export-requires-2 g c = fresh_too c.args.name.now.text.now c.args.state.now.
 
 pub returns-clause-ok : goal.returns-clause-ok
 returns-clause-ok g c =
-    exports_as c.args.name.now.span (g.R.Rules.named c.args.rules.now) c.args.state.now.graph c.add_export.new.self c.args.root.now c.args.externs.now c.add_export-2.new.self c.args.name.now.text.now c.args.node.0
+    exports_as c.args.name.now.span (g.R.Rules.named c.args.scope.now.rules.now) c.args.state.now.graph c.add_export.new.self c.args.scope.now.root.now c.args.externs.now c.add_export-2.new.self c.args.name.now.text.now c.args.node.0
     c.requires.agrees c.in_ok-check_export.ensures.ok c.in_ok-add_export.ensures.ok c.in_ok-add_export-2.ensures.exported c.in_ok-add_export-2.ensures.imported

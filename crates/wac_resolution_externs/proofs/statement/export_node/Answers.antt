@@ -8,7 +8,7 @@ pub returns-in-None-clause-ok : goal.returns-in-None-clause-ok
 returns-in-None-clause-ok g c =
     rw c.in-None.is
     (on_ok _ _ c.export_unnamed.result
-    (λ e x same. subst (λ (p : Span). Exported p c.args.state.now.graph c.export_unnamed.new.state.graph c.args.root.now c.args.externs.now c.export_unnamed.new.externs (λ naming old new. Under (g.R.Rules.named c.args.rules.now) (λ s. ExportsBy s (at old c.args.node.0) ExportOptions.none new))) (sym same) e)
+    (λ e x same. subst (λ (p : Span). Exported p c.args.state.now.graph c.export_unnamed.new.state.graph c.args.scope.now.root.now c.args.externs.now c.export_unnamed.new.externs (λ naming old new. Under (g.R.Rules.named c.args.scope.now.rules.now) (λ s. ExportsBy s (at old c.args.exported.now.node.0) ExportOptions.none new))) (sym same) e)
     c.export_unnamed.ensures.ok)
 
 pub returns-in-None-clause-err : goal.returns-in-None-clause-err

@@ -5,9 +5,9 @@ use Rattle.wac_resolution_worlds.proofs.declared.world_decl.Goals as goal
 
 pub returns-clause-ok : goal.returns-clause-ok
 returns-clause-ok c =
-    subst (λ (l : List WorldItem). IfOk c.world_of.result (λ k. WorldDeclared c.args.context.now c.args.state.now.graph c.world_of.new.state.graph (values_of c.args.root.now) c.args.decl.now.id.string.now (map world_item_of l) k)) c.items_of.ensures c.world_of.ensures.ok
+    subst (λ (l : List WorldItem). IfOk c.world_of.result (λ k. WorldDeclared c.args.outer.now.context.now c.args.state.now.graph c.world_of.new.state.graph (values_of c.args.outer.now.root.now) c.args.decl.now.id.string.now (map world_item_of l) k)) c.items_of.ensures c.world_of.ensures.ok
 
 pub returns-clause-err : goal.returns-clause-err
 returns-clause-err c =
     let g = c.args.state.now.graph in
-    subst (λ (l : List WorldItem). IfErr c.world_of.result (λ e. Reports (told e) ((naming : Naming) → WorldBroken (context_of naming c.args.context.now) (scope_of naming g (values_of c.args.root.now)) c.args.decl.now.id.string.now (declared_count g) (map world_item_of l) (told e)))) c.items_of.ensures c.world_of.ensures.err
+    subst (λ (l : List WorldItem). IfErr c.world_of.result (λ e. Reports (told e) ((naming : Naming) → WorldBroken (context_of naming c.args.outer.now.context.now) (scope_of naming g (values_of c.args.outer.now.root.now)) c.args.decl.now.id.string.now (declared_count g) (map world_item_of l) (told e)))) c.items_of.ensures c.world_of.ensures.err

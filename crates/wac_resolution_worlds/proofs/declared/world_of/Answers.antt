@@ -9,5 +9,5 @@ returns-in_err-declared-clause-err c =
 
 pub returns-clause-ok : goal.returns-clause-ok
 returns-clause-ok c =
-    world_declared c.args.context.now c.args.state.now.graph c.world.new.state.graph (values_of c.args.root.now) c.args.name.now (map world_item_of c.args.items.now) (string_bytes c.in_ok-id.id) c.in_ok-declared.declared
+    world_declared c.args.outer.now.context.now c.args.state.now.graph c.world.new.state.graph (values_of c.args.outer.now.root.now) c.args.name.now (map world_item_of c.args.items.now) (string_bytes c.in_ok-id.id) c.in_ok-declared.declared
     c.in_ok-id.ensures c.in_ok-declared.ensures.ok

@@ -10,10 +10,10 @@ returns-in-Package-clause-err c = rw c.in-Package.is c.path_item.ensures.err
 
 pub returns-in-Ident-clause-ok : goal.returns-in-Ident-clause-ok
 returns-in-Ident-clause-ok c =
-    ident_item_goes c.args.context.now c.args.side c.args.state.now.graph (values_of c.args.root.now) (lists_of c.args.body.now) (lists_of c.ident_item.new.body) c.args.item.now (ident_of c.in-Ident.id) c.ident_item.result (ap world_item_path_of c.in-Ident.is) c.requires.supplied c.ident_item.ensures.ok
+    ident_item_goes c.args.outer.now.context.now c.args.section.now.side c.args.state.now.graph (values_of c.args.outer.now.root.now) (lists_of c.args.body.now) (lists_of c.ident_item.new.body) c.args.item.now (ident_of c.in-Ident.id) c.ident_item.result (ap world_item_path_of c.in-Ident.is) c.requires.supplied c.ident_item.ensures.ok
 
 pub returns-in-Ident-clause-err : goal.returns-in-Ident-clause-err
 returns-in-Ident-clause-err c =
     if_reports _ _
-    (λ r. ident_item_breaks c.args.context.now (owner_of c.args.owner.now) c.args.side c.args.state.now.graph (values_of c.args.root.now) (lists_of c.args.body.now) c.args.item.now (ident_of c.in-Ident.id) r (ap world_item_path_of c.in-Ident.is))
+    (λ r. ident_item_breaks c.args.outer.now.context.now (owner_of c.args.section.now.owner) c.args.section.now.side c.args.state.now.graph (values_of c.args.outer.now.root.now) (lists_of c.args.body.now) c.args.item.now (ident_of c.in-Ident.id) r (ap world_item_path_of c.in-Ident.is))
     c.ident_item.result c.ident_item.ensures.err

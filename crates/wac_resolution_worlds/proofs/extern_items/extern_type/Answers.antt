@@ -7,23 +7,23 @@ use Rattle.wac_resolution_worlds.proofs.extern_items.extern_type.Goals as goal
 pub returns-in_err-named_extern-in-Ident-clause-err : goal.returns-in_err-named_extern-in-Ident-clause-err
 returns-in_err-named_extern-in-Ident-clause-err c =
     let p = err_from_is_err_and c.from_residual.result c.from_residual.ensures.1 in
-    rw (p.1, p.2) (reports c.in_err-named_extern-in-Ident.ensures.err (λ err. extern_breaks c.args.context.now c.args.state.now.graph (values_of c.args.root.now) (values_of c.args.names.now) c.args.ty.now (ExternType.ident (ident_of c.in-Ident.id)) (told c.in_err-named_extern-in-Ident.field-0.0) (ap extern_type_of c.in-Ident.is)
-    (λ naming. err naming c.args.state.now.graph (context_of naming c.args.context.now) (declared_count c.args.state.now.graph))))
+    rw (p.1, p.2) (reports c.in_err-named_extern-in-Ident.ensures.err (λ err. extern_breaks c.args.outer.now.context.now c.args.state.now.graph (values_of c.args.outer.now.root.now) (values_of c.args.names.now) c.args.ty.now (ExternType.ident (ident_of c.in-Ident.id)) (told c.in_err-named_extern-in-Ident.field-0.0) (ap extern_type_of c.in-Ident.is)
+    (λ naming. err naming c.args.state.now.graph (context_of naming c.args.outer.now.context.now) (declared_count c.args.state.now.graph))))
 
 pub returns-in_ok-named_extern-in-Ident-clause-ok : goal.returns-in_ok-named_extern-in-Ident-clause-ok
 returns-in_ok-named_extern-in-Ident-clause-ok c =
-    named_made c.args.context.now c.args.state.now.graph (values_of c.args.root.now) (values_of c.args.names.now) c.args.ty.now (ident_of c.in-Ident.id) c.in_ok-named_extern-in-Ident.field-0 (ap extern_type_of c.in-Ident.is)
+    named_made c.args.outer.now.context.now c.args.state.now.graph (values_of c.args.outer.now.root.now) (values_of c.args.names.now) c.args.ty.now (ident_of c.in-Ident.id) c.in_ok-named_extern-in-Ident.field-0 (ap extern_type_of c.in-Ident.is)
     c.requires.supplied c.requires.names c.requires.root c.in_ok-named_extern-in-Ident.ensures.ok
 
 pub returns-in_err-new_func-in-Func-clause-err : goal.returns-in_err-new_func-in-Func-clause-err
 returns-in_err-new_func-in-Func-clause-err c =
     let p = err_from_is_err_and c.from_residual-in_err-new_func-in-Func.result c.from_residual-in_err-new_func-in-Func.ensures.1 in
-    rw (p.1, p.2) (reports c.in_err-new_func-in-Func.ensures.err (extern_breaks c.args.context.now c.args.state.now.graph (values_of c.args.root.now) (values_of c.args.names.now) c.args.ty.now (ExternType.func (func_type_of c.in-Func.func)) (told c.in_err-new_func-in-Func.field-0.0) (ap extern_type_of c.in-Func.is)
+    rw (p.1, p.2) (reports c.in_err-new_func-in-Func.ensures.err (extern_breaks c.args.outer.now.context.now c.args.state.now.graph (values_of c.args.outer.now.root.now) (values_of c.args.names.now) c.args.ty.now (ExternType.func (func_type_of c.in-Func.func)) (told c.in_err-new_func-in-Func.field-0.0) (ap extern_type_of c.in-Func.is)
     ))
 
 pub returns-in_ok-new_func-in-Func-clause-ok : goal.returns-in_ok-new_func-in-Func-clause-ok
 returns-in_ok-new_func-in-Func-clause-ok c =
-    func_made c.args.context.now c.args.state.now.graph c.new_func.new.state.graph (values_of c.args.root.now) (values_of c.args.names.now) c.args.ty.now (func_type_of c.in-Func.func) c.in_ok-new_func-in-Func.field-0 (ap extern_type_of c.in-Func.is)
+    func_made c.args.outer.now.context.now c.args.state.now.graph c.new_func.new.state.graph (values_of c.args.outer.now.root.now) (values_of c.args.names.now) c.args.ty.now (func_type_of c.in-Func.func) c.in_ok-new_func-in-Func.field-0 (ap extern_type_of c.in-Func.is)
     c.requires.supplied c.in_ok-new_func-in-Func.ensures.ok
 
 pub returns-in_err-interface-in-Interface-clause-err : goal.returns-in_err-interface-in-Interface-clause-err
@@ -31,10 +31,10 @@ returns-in_err-interface-in-Interface-clause-err c =
     let p = err_from_is_err_and c.from_residual-in_err-interface-in-Interface.result c.from_residual-in_err-interface-in-Interface.ensures.1 in
     let g = c.args.state.now.graph in
     rw (p.1, p.2) (reports c.in_err-interface-in-Interface.ensures.err (λ err.
-    let h = subst (λ (l : List InterfaceItem). (naming : Naming) → InterfaceBroken (context_of naming c.args.context.now) (scope_of naming g (values_of c.args.root.now)) None (declared_count g) (map interface_item_of l) (told c.in_err-interface-in-Interface.field-0.0)) c.deref.ensures.value err in
-    extern_breaks c.args.context.now g (values_of c.args.root.now) (values_of c.args.names.now) c.args.ty.now (ExternType.interface (inline_interface_of c.in-Interface.inline)) (told c.in_err-interface-in-Interface.field-0.0) (ap extern_type_of c.in-Interface.is) h))
+    let h = subst (λ (l : List InterfaceItem). (naming : Naming) → InterfaceBroken (context_of naming c.args.outer.now.context.now) (scope_of naming g (values_of c.args.outer.now.root.now)) None (declared_count g) (map interface_item_of l) (told c.in_err-interface-in-Interface.field-0.0)) c.deref.ensures.value err in
+    extern_breaks c.args.outer.now.context.now g (values_of c.args.outer.now.root.now) (values_of c.args.names.now) c.args.ty.now (ExternType.interface (inline_interface_of c.in-Interface.inline)) (told c.in_err-interface-in-Interface.field-0.0) (ap extern_type_of c.in-Interface.is) h))
 
 pub returns-in_ok-interface-in-Interface-clause-ok : goal.returns-in_ok-interface-in-Interface-clause-ok
 returns-in_ok-interface-in-Interface-clause-ok c =
-    let made = subst (λ (l : List InterfaceItem). InterfaceMade c.args.context.now c.args.state.now.graph c.interface.new.state.graph (values_of c.args.root.now) None (map interface_item_of l) c.in_ok-interface-in-Interface.field-0) c.deref.ensures.value c.in_ok-interface-in-Interface.ensures.ok in
-    inline_made c.args.context.now c.args.state.now.graph c.interface.new.state.graph (values_of c.args.root.now) (values_of c.args.names.now) c.args.ty.now (inline_interface_of c.in-Interface.inline) c.in_ok-interface-in-Interface.field-0 (ap extern_type_of c.in-Interface.is) made
+    let made = subst (λ (l : List InterfaceItem). InterfaceMade c.args.outer.now.context.now c.args.state.now.graph c.interface.new.state.graph (values_of c.args.outer.now.root.now) None (map interface_item_of l) c.in_ok-interface-in-Interface.field-0) c.deref.ensures.value c.in_ok-interface-in-Interface.ensures.ok in
+    inline_made c.args.outer.now.context.now c.args.state.now.graph c.interface.new.state.graph (values_of c.args.outer.now.root.now) (values_of c.args.names.now) c.args.ty.now (inline_interface_of c.in-Interface.inline) c.in_ok-interface-in-Interface.field-0 (ap extern_type_of c.in-Interface.is) made

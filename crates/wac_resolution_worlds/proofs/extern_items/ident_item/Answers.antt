@@ -17,4 +17,4 @@ returns-in_err-instance-clause-err c =
 
 pub returns-clause-ok : goal.returns-clause-ok
 returns-clause-ok c =
-    ident_goes c.args.side c.args.state.now.graph (values_of c.args.root.now) (lists_of c.args.body.now) (lists_of c.instance.new.body) (ident_of c.args.id.now) c.in_ok-kind.kind c.in_ok-kind.ensures.ok c.in_ok-instance.ensures.ok
+    ident_goes c.args.section.now.side c.args.state.now.graph (values_of c.args.root.now) (lists_of c.args.body.now) (lists_of c.instance.new.body) (ident_of c.args.id.now) c.in_ok-kind.kind c.in_ok-kind.ensures.ok c.in_ok-instance.ensures.ok

@@ -13,9 +13,9 @@ extern_type-requires-clause-names c = c.requires.body.names
 pub returns-in_err-kind-clause-err : goal.returns-in_err-kind-clause-err
 returns-in_err-kind-clause-err c =
     let p = err_from_is_err_and c.from_residual-in_err-kind.result c.from_residual-in_err-kind.ensures.1 in
-    rw (p.1, p.2) (reports c.in_err-kind.ensures.err (λ err naming. inr (extern_fresh naming c.args.state.now.graph c.args.side (lists_of c.args.body.now) c.args.item.now.id.string.now c.in_ok-check_extern.ensures.ok, err naming)))
+    rw (p.1, p.2) (reports c.in_err-kind.ensures.err (λ err naming. inr (extern_fresh naming c.args.state.now.graph c.args.section.now.side (lists_of c.args.body.now) c.args.item.now.id.string.now c.in_ok-check_extern.ensures.ok, err naming)))
 
 pub returns-clause-ok : goal.returns-clause-ok
 returns-clause-ok c =
-    named_goes c.args.context.now c.args.side c.args.state.now.graph c.extern_type.new.state.graph (values_of c.args.root.now) (lists_of c.args.body.now) (lists_of c.add.new.self) (named_world_item_of c.args.item.now) c.in_ok-kind.kind
+    named_goes c.args.outer.now.context.now c.args.section.now.side c.args.state.now.graph c.extern_type.new.state.graph (values_of c.args.outer.now.root.now) (lists_of c.args.body.now) (lists_of c.add.new.self) (named_world_item_of c.args.item.now) c.in_ok-kind.kind
     c.requires.body c.in_ok-check_extern.ensures.ok c.in_ok-kind.ensures.ok c.in_ok-add.ensures

@@ -12,7 +12,7 @@ pub returns-in_err-kind-clause-err : goal.returns-in_err-kind-clause-err
 returns-in_err-kind-clause-err c =
     let p = err_from_is_err_and c.from_residual-in_err-kind.result c.from_residual-in_err-kind.ensures.1 in
     let all = subst (λ (l : List WorldIncludeItem). AreAll (map world_include_item_of l) (by_name c.in_ok-renamed.renamed.entries)) c.deref.ensures.value c.in_ok-renamed.ensures.ok in
-    rw (p.1, p.2) (reports c.in_err-kind.ensures.err (world_breaks c.args.context.now c.args.state.now.graph (values_of c.args.root.now) (lists_of c.args.body.now) c.args.world.now (world_include_of c.args.include.now) (by_name c.in_ok-renamed.renamed.entries) (told c.in_err-kind.field-0.0) all))
+    rw (p.1, p.2) (reports c.in_err-kind.ensures.err (world_breaks c.args.outer.now.context.now c.args.state.now.graph (values_of c.args.outer.now.root.now) (lists_of c.args.body.now) c.args.world.now (world_include_of c.args.include.now) (by_name c.in_ok-renamed.renamed.entries) (told c.in_err-kind.field-0.0) all))
 
 pub take-requires-clause-kind : goal.take-requires-clause-kind
 take-requires-clause-kind c = c.in_ok-kind.ensures.ok.named
@@ -26,11 +26,11 @@ pub returns-in_err-take-clause-err : goal.returns-in_err-take-clause-err
 returns-in_err-take-clause-err c =
     let p = err_from_is_err_and c.from_residual-in_err-take.result c.from_residual-in_err-take.ensures.1 in
     let all = subst (λ (l : List WorldIncludeItem). AreAll (map world_include_item_of l) (by_name c.in_ok-renamed.renamed.entries)) c.deref.ensures.value c.in_ok-renamed.ensures.ok in
-    rw (p.1, p.2) (reports c.in_err-take.ensures.err (taking_breaks c.args.context.now c.args.state.now.graph c.world_ref.new.state.graph (values_of c.args.root.now) (lists_of c.args.body.now) c.args.world.now (world_include_of c.args.include.now) (by_name c.in_ok-renamed.renamed.entries) c.in_ok-kind.kind (told c.in_err-take.field-0.0)
+    rw (p.1, p.2) (reports c.in_err-take.ensures.err (taking_breaks c.args.outer.now.context.now c.args.state.now.graph c.world_ref.new.state.graph (values_of c.args.outer.now.root.now) (lists_of c.args.body.now) c.args.world.now (world_include_of c.args.include.now) (by_name c.in_ok-renamed.renamed.entries) c.in_ok-kind.kind (told c.in_err-take.field-0.0)
     c.requires.body all c.in_ok-kind.ensures.ok))
 
 pub returns-clause-ok : goal.returns-clause-ok
 returns-clause-ok c =
     let all = subst (λ (l : List WorldIncludeItem). AreAll (map world_include_item_of l) (by_name c.in_ok-renamed.renamed.entries)) c.deref.ensures.value c.in_ok-renamed.ensures.ok in
-    include_goes c.args.context.now c.args.state.now.graph c.world_ref.new.state.graph (values_of c.args.root.now) (lists_of c.args.body.now) (lists_of (record c.args.body.now { imports = c.take.new.imports; exports = c.take.new.exports })) (world_include_of c.args.include.now) (by_name c.in_ok-renamed.renamed.entries) c.in_ok-kind.kind
+    include_goes c.args.outer.now.context.now c.args.state.now.graph c.world_ref.new.state.graph (values_of c.args.outer.now.root.now) (lists_of c.args.body.now) (lists_of (record c.args.body.now { imports = c.take.new.imports; exports = c.take.new.exports })) (world_include_of c.args.include.now) (by_name c.in_ok-renamed.renamed.entries) c.in_ok-kind.kind
     c.requires.body all c.in_ok-kind.ensures.ok c.in_ok-take.ensures.ok refl refl

@@ -9,8 +9,8 @@ returns-in_err-include-in-Some-clause-err c =
 
 pub returns-in_ok-include-in-Some-clause-ok : goal.returns-in_ok-include-in-Some-clause-ok
 returns-in_ok-include-in-Some-clause-ok c =
-    one_include c.args.context.now c.args.state.now.graph c.include.new.state.graph (values_of c.args.root.now) (lists_of c.args.body.now) (lists_of c.include.new.body) (world_item_of c.args.item.now) (world_include_of c.in-Some.clause.now) (sym c.in-Some.ensures) c.in_ok-include-in-Some.ensures.ok
+    one_include c.args.outer.now.context.now c.args.state.now.graph c.include.new.state.graph (values_of c.args.outer.now.root.now) (lists_of c.args.body.now) (lists_of c.include.new.body) (world_item_of c.args.item.now) (world_include_of c.in-Some.clause.now) (sym c.in-Some.ensures) c.in_ok-include-in-Some.ensures.ok
 
 pub returns-in-None-clause-ok : goal.returns-in-None-clause-ok
 returns-in-None-clause-ok c =
-    no_include c.args.context.now c.args.state.now.graph (values_of c.args.root.now) (lists_of c.args.body.now) (world_item_of c.args.item.now) (sym c.in-None.ensures) c.requires.supplied c.requires.body
+    no_include c.args.outer.now.context.now c.args.state.now.graph (values_of c.args.outer.now.root.now) (lists_of c.args.body.now) (world_item_of c.args.item.now) (sym c.in-None.ensures) c.requires.supplied c.requires.body

@@ -9,13 +9,13 @@ returns-in_err-interface-clause-err c =
     rw (p.1, p.2) (reports c.in_err-interface.ensures.err (λ err naming. inl (err naming c.args.state.now.graph)))
 
 pub instance_id-id-requires : goal.instance_id-id-requires
-instance_id-id-requires c = (interface_kind c.args.kind c.in_ok-interface.interface c.in_ok-interface.ensures.ok).named c.args.state.now.graph.types c.requires.kind
+instance_id-id-requires c = (interface_kind c.args.named.now.kind c.in_ok-interface.interface c.in_ok-interface.ensures.ok).named c.args.state.now.graph.types c.requires.kind
 
 pub returns-in_err-check_extern-clause-err : goal.returns-in_err-check_extern-clause-err
 returns-in_err-check_extern-clause-err c =
     let p = err_from_is_err_and c.from_residual-in_err-check_extern.result c.from_residual-in_err-check_extern.ensures.1 in
-    rw (p.1, p.2) (reports c.in_err-check_extern.ensures.err (λ err. instance_conflicts (owner_of c.args.owner.now) c.args.state.now.graph c.args.side (lists_of c.args.body.now) c.args.kind c.in_ok-interface.interface c.instance_id-id.result.now c.args.name.now c.args.span (told c.in_err-check_extern.field-0.0)
-    (interface_kind c.args.kind c.in_ok-interface.interface c.in_ok-interface.ensures.ok) c.instance_id-id.ensures (λ naming. err naming c.args.state.now.graph)))
+    rw (p.1, p.2) (reports c.in_err-check_extern.ensures.err (λ err. instance_conflicts (owner_of c.args.section.now.owner) c.args.state.now.graph c.args.section.now.side (lists_of c.args.body.now) c.args.named.now.kind c.in_ok-interface.interface c.instance_id-id.result.now c.args.named.now.text.now c.args.named.now.span (told c.in_err-check_extern.field-0.0)
+    (interface_kind c.args.named.now.kind c.in_ok-interface.interface c.in_ok-interface.ensures.ok) c.instance_id-id.ensures (λ naming. err naming c.args.state.now.graph)))
 
 pub returns-in_err-add-clause-err : goal.returns-in_err-add-clause-err
 returns-in_err-add-clause-err c =
@@ -24,5 +24,5 @@ returns-in_err-add-clause-err c =
 
 pub returns-clause-ok : goal.returns-clause-ok
 returns-clause-ok c =
-    instance_goes c.args.state.now.graph c.args.side (lists_of c.args.body.now) (lists_of c.add.new.self) c.args.kind c.in_ok-interface.interface c.instance_id-id.result.now
-    c.requires.body c.requires.kind (interface_kind c.args.kind c.in_ok-interface.interface c.in_ok-interface.ensures.ok) c.instance_id-id.ensures c.in_ok-check_extern.ensures.ok c.in_ok-add.ensures
+    instance_goes c.args.state.now.graph c.args.section.now.side (lists_of c.args.body.now) (lists_of c.add.new.self) c.args.named.now.kind c.in_ok-interface.interface c.instance_id-id.result.now
+    c.requires.body c.requires.kind (interface_kind c.args.named.now.kind c.in_ok-interface.interface c.in_ok-interface.ensures.ok) c.instance_id-id.ensures c.in_ok-check_extern.ensures.ok c.in_ok-add.ensures

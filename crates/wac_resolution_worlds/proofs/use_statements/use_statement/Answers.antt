@@ -8,11 +8,11 @@ use Rattle.wac_resolution_worlds.proofs.use_statements.use_statement.Goals as go
 pub returns-in_err-interface-clause-err : goal.returns-in_err-interface-clause-err
 returns-in_err-interface-clause-err c =
     let p = err_from_is_err_and c.from_residual.result c.from_residual.ensures.1 in
-    rw (p.1, p.2) (reports c.in_err-interface.ensures.err (none_named c.args.context.now c.args.side c.args.state.now.graph (values_of c.args.root.now) (lists_of c.args.body.now) (use_of c.args.statement.now) (told c.in_err-interface.field-0.0)))
+    rw (p.1, p.2) (reports c.in_err-interface.ensures.err (none_named c.args.outer.now.context.now c.args.side c.args.state.now.graph (values_of c.args.outer.now.root.now) (lists_of c.args.body.now) (use_of c.args.statement.now) (told c.in_err-interface.field-0.0)))
 
 pub use_items-requires-clause-body : goal.use_items-requires-clause-body
 use_items-requires-clause-body c =
-    body_there c.args.context.now c.args.side c.args.state.now.graph c.used_interface.new.state.graph (values_of c.args.root.now) (lists_of c.args.body.now) (use_path_of c.args.statement.now.path) c.in_ok-interface.interface c.requires.body c.in_ok-interface.ensures.ok
+    body_there c.args.outer.now.context.now c.args.side c.args.state.now.graph c.used_interface.new.state.graph (values_of c.args.outer.now.root.now) (lists_of c.args.body.now) (use_path_of c.args.statement.now.path) c.in_ok-interface.interface c.requires.body c.in_ok-interface.ensures.ok
 
 pub use_items-requires-clause-interface : goal.use_items-requires-clause-interface
 use_items-requires-clause-interface c = c.in_ok-interface.ensures.ok.named
@@ -25,9 +25,9 @@ returns-in_err-use_items-clause-err c =
     rw (p.1, p.2) (reports c.in_err-use_items.ensures.err (λ err.
     let items = subst (λ (l : List UseItem). (naming : Naming) → Fails (UsesItem c.args.side (means naming g (kinds.Instance i))) (UseItemBroken c.args.side (means naming g (kinds.Instance i)) c.path_name-path.result.now (told c.in_err-use_items.field-0.0)) (body_of naming g c.args.body.now) (map use_item_of l)) c.deref.ensures.value err in
     let h = subst (λ (t : List ℕ). (naming : Naming) → Fails (UsesItem c.args.side (means naming g (kinds.Instance i))) (UseItemBroken c.args.side (means naming g (kinds.Instance i)) t (told c.in_err-use_items.field-0.0)) (body_of naming g c.args.body.now) (use_of c.args.statement.now).items) c.path_name-path.ensures items in
-    uses_broken c.args.context.now c.args.side c.args.state.now.graph g (values_of c.args.root.now) (lists_of c.args.body.now) (use_of c.args.statement.now) i (told c.in_err-use_items.field-0.0) c.requires.body c.in_ok-interface.ensures.ok h))
+    uses_broken c.args.outer.now.context.now c.args.side c.args.state.now.graph g (values_of c.args.outer.now.root.now) (lists_of c.args.body.now) (use_of c.args.statement.now) i (told c.in_err-use_items.field-0.0) c.requires.body c.in_ok-interface.ensures.ok h))
 
 pub returns-clause-ok : goal.returns-clause-ok
 returns-clause-ok c =
     let go = subst (λ (l : List UseItem). UseSteps c.args.side c.used_interface.new.state.graph c.in_ok-interface.interface (lists_of c.args.body.now) (lists_of c.use_items.new.body) (map use_item_of l)) c.deref.ensures.value c.in_ok-use_items.ensures.ok in
-    statement_goes c.args.context.now c.args.side c.args.state.now.graph c.used_interface.new.state.graph (values_of c.args.root.now) (lists_of c.args.body.now) (lists_of c.use_items.new.body) (use_of c.args.statement.now) c.in_ok-interface.interface c.requires.body c.in_ok-interface.ensures.ok go
+    statement_goes c.args.outer.now.context.now c.args.side c.args.state.now.graph c.used_interface.new.state.graph (values_of c.args.outer.now.root.now) (lists_of c.args.body.now) (lists_of c.use_items.new.body) (use_of c.args.statement.now) c.in_ok-interface.interface c.requires.body c.in_ok-interface.ensures.ok go

@@ -18,5 +18,5 @@ returns-in_err-interface-clause-err c =
 
 pub returns-clause-ok : goal.returns-clause-ok
 returns-clause-ok c =
-    subst (λ (k : ItemKind). Found (packages_in c.args.context.now) c.args.state.now.graph c.use_path.new.state.graph (λ naming m. UseNames (context_of naming c.args.context.now) (scope_of naming c.args.state.now.graph (values_of c.args.root.now)) (use_path_of c.args.path.now) m) k)
+    subst (λ (k : ItemKind). Found (packages_in c.args.outer.now.context.now) c.args.state.now.graph c.use_path.new.state.graph (λ naming m. UseNames (context_of naming c.args.outer.now.context.now) (scope_of naming c.args.state.now.graph (values_of c.args.outer.now.root.now)) (use_path_of c.args.path.now) m) k)
     c.in_ok-interface.ensures.ok c.in_ok-kind.ensures.ok

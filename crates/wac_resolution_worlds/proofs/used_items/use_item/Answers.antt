@@ -5,7 +5,7 @@ use Rattle.wac_resolution_worlds.proofs.used_items.use_item.Goals as goal
 pub returns-in_err-kind-clause-err : goal.returns-in_err-kind-clause-err
 returns-in_err-kind-clause-err c =
     let p = err_from_is_err_and c.from_residual.result c.from_residual.ensures.1 in
-    rw (p.1, p.2) (reports c.in_err-kind.ensures.err (λ err naming before. kind_breaks c.args.side c.args.state.now.graph c.args.interface c.args.path.now (told c.in_err-kind.field-0.0) (body_of naming c.args.state.now.graph c.args.body.now) before (use_item_of c.args.item.now) naming (err naming)))
+    rw (p.1, p.2) (reports c.in_err-kind.ensures.err (λ err naming before. kind_breaks c.args.side c.args.state.now.graph c.args.used.now.interface c.args.used.now.path.now (told c.in_err-kind.field-0.0) (body_of naming c.args.state.now.graph c.args.body.now) before (use_item_of c.args.item.now) naming (err naming)))
 
 pub returns-in_err-check_use-clause-err : goal.returns-in_err-check_use-clause-err
 returns-in_err-check_use-clause-err c =
@@ -18,15 +18,15 @@ add_use-requires c =
 
 pub bind-requires-clause-bound : goal.bind-requires-clause-bound
 bind-requires-clause-bound c =
-    use_bound c.args.state.now.graph.types c.args.side (lists_of c.args.body.now) (lists_of c.add_use.new.self) (use_item_of c.args.item.now) (ident_of c.used_as-id.result.now) (record { interface = c.args.interface; name = c.in_ok-name.name })
+    use_bound c.args.state.now.graph.types c.args.side (lists_of c.args.body.now) (lists_of c.add_use.new.self) (use_item_of c.args.item.now) (ident_of c.used_as-id.result.now) (record { interface = c.args.used.now.interface; name = c.in_ok-name.name })
     c.used_as-id.ensures c.requires.body c.in_ok-check_use.ensures.ok c.in_ok-add_use.ensures
 
 pub bind-requires-clause-fresh : goal.bind-requires-clause-fresh
 bind-requires-clause-fresh c =
-    use_fresh c.args.side (lists_of c.args.body.now) (lists_of c.add_use.new.self) (use_item_of c.args.item.now) (ident_of c.used_as-id.result.now) (record { interface = c.args.interface; name = c.in_ok-name.name })
+    use_fresh c.args.side (lists_of c.args.body.now) (lists_of c.add_use.new.self) (use_item_of c.args.item.now) (ident_of c.used_as-id.result.now) (record { interface = c.args.used.now.interface; name = c.in_ok-name.name })
     c.used_as-id.ensures c.in_ok-check_use.ensures.ok c.in_ok-add_use.ensures
 
 pub returns-clause-ok : goal.returns-clause-ok
 returns-clause-ok c =
-    use_goes c.args.side c.args.state.now.graph c.args.interface (lists_of c.args.body.now) (lists_of c.add_use.new.self) (lists_of c.bind.new.self) (use_item_of c.args.item.now) (ident_of c.used_as-id.result.now) c.in_ok-kind.kind (record { interface = c.args.interface; name = c.in_ok-name.name })
+    use_goes c.args.side c.args.state.now.graph c.args.used.now.interface (lists_of c.args.body.now) (lists_of c.add_use.new.self) (lists_of c.bind.new.self) (use_item_of c.args.item.now) (ident_of c.used_as-id.result.now) c.in_ok-kind.kind (record { interface = c.args.used.now.interface; name = c.in_ok-name.name })
     c.used_as-id.ensures refl c.in_ok-name.ensures c.requires.body c.requires.interface c.in_ok-kind.ensures.ok c.in_ok-check_use.ensures.ok c.in_ok-add_use.ensures c.in_ok-bind.ensures

@@ -2,7 +2,7 @@ use Rattle.wac_declared_packages.proofs.Common.{[], subst, document_of}
 use Rattle.wac_ast.specs.declared.document.Document.{Document}
 use Rattle.wac_declared_packages.specs.Declaring.{IsGraphOf, IsUnresolved}
 use Rattle.wac_declared_packages.proofs.Refuses.{unresolved}
-use Rattle.wac_declared_packages.proofs.declaration.resolved.Goals as goal
+use Rattle.wac_declared_packages.proofs.declaration.graph_of.Goals as goal
 
 pub returns-in-Ok-clause-ok : goal.returns-in-Ok-clause-ok
 returns-in-Ok-clause-ok c =
