@@ -138,13 +138,11 @@ fn format_file<F: FileSystem, O: Write + Drop, E: Write + Drop>(
             Ok(Outcome::Untidy)
         }
         Plan::Rejected(diagnostic) => {
-            let text = bytes.as_slice();
-            console.report(
-                alloc,
-                Report::Human,
-                &SourceFile { path, text },
-                &diagnostic,
-            )?;
+            let file = SourceFile {
+                path,
+                text: bytes.as_slice(),
+            };
+            console.report(alloc, Report::Human, &file, &diagnostic)?;
             Ok(Outcome::Rejected)
         }
     }

@@ -28,12 +28,8 @@ fn source_of_bytes<O: Write + Drop, E: Write + Drop>(
     match flat_text(alloc, bytes) {
         Ok(Reading::Text(text)) => Ok(Source::Text(String::from_str(alloc, text)?)),
         Ok(Reading::Rejected(diagnostic)) => {
-            console.report(
-                alloc,
-                report,
-                &SourceFile { path, text: bytes },
-                &diagnostic,
-            )?;
+            let file = SourceFile { path, text: bytes };
+            console.report(alloc, report, &file, &diagnostic)?;
             Ok(Source::Nothing(Outcome::Rejected))
         }
         Err(_) => Err(AllocError),
