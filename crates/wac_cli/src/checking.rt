@@ -6,7 +6,7 @@ use std::alloc::{AllocError, Global};
 use std::io::{Read, Write};
 use wac_all_errors::all_errors;
 use wac_cli_console::{
-    Console, Outcome, Report, STDIN, Status, Task, finish, finish_input, read_all,
+    Console, Outcome, Report, STDIN, SourceFile, Status, Task, finish, finish_input, read_all,
 };
 use wac_files::{FileError, FileSystem, Found, find_files};
 use wac_first_error::{Verdict, first_error};
@@ -156,8 +156,9 @@ fn report_all<O: Write + Drop, E: Write + Drop>(
     bytes: &[u8],
 ) -> Result<(), AllocError> {
     let found = all_errors(alloc, bytes, true, MOST)?;
+    let file = SourceFile { path, text: bytes };
     for finding in found.as_slice() {
-        console.report(alloc, report, path, bytes, &finding.diagnostic)?;
+        console.report(alloc, report, &file, &finding.diagnostic)?;
     }
     Ok(())
 }

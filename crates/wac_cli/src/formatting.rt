@@ -9,7 +9,8 @@ use crate::planning::Plan;
 use std::alloc::{AllocError, Global};
 use std::io::{Read, Write};
 use wac_cli_console::{
-    Action, Console, Outcome, Report, STDIN, Status, Task, finish, finish_input, read_all,
+    Action, Console, Outcome, Report, STDIN, SourceFile, Status, Task, finish, finish_input,
+    read_all,
 };
 use wac_diff::unified;
 use wac_files::{FileError, FileSystem, Found, find_files};
@@ -137,7 +138,11 @@ fn format_file<F: FileSystem, O: Write + Drop, E: Write + Drop>(
             Ok(Outcome::Untidy)
         }
         Plan::Rejected(diagnostic) => {
-            console.report(alloc, Report::Human, path, bytes.as_slice(), &diagnostic)?;
+            let file = SourceFile {
+                path,
+                text: bytes.as_slice(),
+            };
+            console.report(alloc, Report::Human, &file, &diagnostic)?;
             Ok(Outcome::Rejected)
         }
     }
@@ -214,7 +219,11 @@ fn format_read<I: Read, O: Write + Drop, E: Write + Drop>(
             Ok(Outcome::Untidy)
         }
         Plan::Rejected(diagnostic) => {
-            console.report(alloc, Report::Human, name, bytes.as_slice(), &diagnostic)?;
+            let file = SourceFile {
+                path: name,
+                text: bytes.as_slice(),
+            };
+            console.report(alloc, Report::Human, &file, &diagnostic)?;
             Ok(Outcome::Rejected)
         }
     }

@@ -5,7 +5,7 @@ use crate::errors::{documents_diagnostic, json_diagnostic, warning};
 use crate::forms::PackageForm;
 use std::alloc::{AllocError, Global};
 use std::io::Write;
-use wac_cli_console::{Action, Console, Outcome, Report, Status};
+use wac_cli_console::{Action, Console, Outcome, Report, SourceFile, Status};
 use wac_component_reading::{STEPS, decode_diagnostic};
 use wac_components::{Decoded, Limits, decode};
 use wac_components_documents::{Documents, documents_of};
@@ -63,7 +63,8 @@ fn show_bytes<O: Write + Drop, E: Write + Drop>(
             warn(alloc, console, path, warnings.as_slice())
         }
         Shown::Rejected(diagnostic) => {
-            console.report(alloc, Report::Human, path, b"", &diagnostic)?;
+            let file = SourceFile { path, text: b"" };
+            console.report(alloc, Report::Human, &file, &diagnostic)?;
             Ok(Outcome::Rejected.status(Action::Check))
         }
     }
@@ -77,8 +78,9 @@ fn warn<O: Write + Drop, E: Write + Drop>(
     warnings: &[Diagnostic],
 ) -> Result<Status, AllocError> {
     let mut status = Status::Well;
+    let file = SourceFile { path, text: b"" };
     for diagnostic in warnings {
-        console.report(alloc, Report::Human, path, b"", diagnostic)?;
+        console.report(alloc, Report::Human, &file, diagnostic)?;
         status = Status::Wrong;
     }
     Ok(status)

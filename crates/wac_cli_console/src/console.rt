@@ -36,6 +36,14 @@ impl<W: Write + Drop> Channel<W> {
     }
 }
 
+/// A file that a command says something of: its path, and the text that is shown of it.
+#[derive(Clone, Copy)]
+pub struct SourceFile<'f> {
+    pub path: &'f str,
+    /// Empty where nothing of the file is a text.
+    pub text: &'f [u8],
+}
+
 /// Where a command writes: an output that programs read, and errors that people read.
 #[derive(Drop)]
 pub struct Console<O: Write + Drop, E: Write + Drop> {
@@ -77,10 +85,10 @@ impl<O: Write + Drop, E: Write + Drop> Console<O, E> {
         &mut self,
         alloc: Global,
         report: Report,
-        path: &str,
-        text: &[u8],
+        file: &SourceFile<'_>,
         diagnostic: &Diagnostic,
     ) -> Result<(), AllocError> {
+        let SourceFile { path, text } = *file;
         match report {
             Report::Human => {
                 let shown = human(alloc, path, text, diagnostic, self.color)?;
@@ -119,7 +127,7 @@ impl<O: Write + Drop, E: Write + Drop> Console<O, E> {
     ) -> Result<(), AllocError> {
         let message = error.to_string(alloc)?;
         let diagnostic = Diagnostic::without_place(error.code(), message);
-        self.report(alloc, report, path, b"", &diagnostic)
+        self.report(alloc, report, &SourceFile { path, text: b"" }, &diagnostic)
     }
 
     /// Writes the last line, unless it is to be left out. Without memory for it a shorter one is written.

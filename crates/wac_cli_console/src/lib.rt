@@ -17,7 +17,7 @@ mod last_line;
 mod options;
 mod outcome;
 
-pub use console::Console;
+pub use console::{Console, SourceFile};
 pub use finishing::{finish, finish_input};
 pub use input::{STDIN, read_all};
 pub use last_line::Task;

@@ -7,7 +7,7 @@ use crate::supply::{Supply, read_supply};
 use crate::verdicts::first_error_of;
 use std::alloc::{AllocError, Global};
 use std::io::Write;
-use wac_cli_console::{Console, Outcome, Status, Task, finish};
+use wac_cli_console::{Console, Outcome, SourceFile, Status, Task, finish};
 use wac_diagnostics::Diagnostic;
 use wac_files::{FileError, FileSystem, Found, find_files};
 use wac_graph::CompositionGraph;
@@ -161,7 +161,8 @@ fn reject<O: Write + Drop, E: Write + Drop>(
     bytes: &[u8],
     diagnostic: &Diagnostic,
 ) -> Result<Outcome, AllocError> {
-    console.report(setting.alloc, setting.report, path, bytes, diagnostic)?;
+    let file = SourceFile { path, text: bytes };
+    console.report(setting.alloc, setting.report, &file, diagnostic)?;
     Ok(Outcome::Rejected)
 }
 
@@ -186,8 +187,9 @@ fn report_each<O: Write + Drop, E: Write + Drop>(
     bytes: &[u8],
     found: &[Diagnostic],
 ) -> Result<(), AllocError> {
+    let file = SourceFile { path, text: bytes };
     for diagnostic in found {
-        console.report(setting.alloc, setting.report, path, bytes, diagnostic)?;
+        console.report(setting.alloc, setting.report, &file, diagnostic)?;
     }
     Ok(())
 }

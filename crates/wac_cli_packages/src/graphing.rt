@@ -7,7 +7,7 @@ use crate::supply::{Supply, supply_beside};
 use crate::verdicts::first_error_of;
 use std::alloc::{AllocError, Global};
 use std::io::Write;
-use wac_cli_console::{Action, Console, Outcome, Status};
+use wac_cli_console::{Action, Console, Outcome, SourceFile, Status};
 use wac_files::{FileError, FileSystem};
 use wac_graph::CompositionGraph;
 use wac_graph_outputs::Form;
@@ -89,7 +89,8 @@ fn show_bytes<O: Write + Drop, E: Write + Drop>(
         Ok(Composed::Resolved(graph)) => show_graph(console, setting, bytes, &graph),
         Ok(Composed::Unresolved) => Ok(Status::Wrong),
         Ok(Composed::Rejected(diagnostic)) => {
-            console.report(setting.0.alloc, setting.0.report, path, bytes, &diagnostic)?;
+            let file = SourceFile { path, text: bytes };
+            console.report(setting.0.alloc, setting.0.report, &file, &diagnostic)?;
             Ok(Outcome::Rejected.status(Action::Check))
         }
         Err(_) => Err(AllocError),

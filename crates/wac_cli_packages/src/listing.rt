@@ -7,7 +7,7 @@ use indexmap::IndexMap;
 use std::alloc::{AllocError, Global};
 use std::io::Write;
 use wac_ast::Document;
-use wac_cli_console::{Action, Console, Outcome, Status};
+use wac_cli_console::{Action, Console, Outcome, SourceFile, Status};
 use wac_diagnostics::Diagnostic;
 use wac_excerpts::push_shown;
 use wac_files::{FileError, FileSystem};
@@ -101,7 +101,8 @@ fn list_bytes<O: Write + Drop, E: Write + Drop>(
             })
         }
         Ok(Listed::Rejected(diagnostic)) => {
-            console.report(setting.alloc, setting.report, path, bytes, &diagnostic)?;
+            let file = SourceFile { path, text: bytes };
+            console.report(setting.alloc, setting.report, &file, &diagnostic)?;
             Ok(Outcome::Rejected.status(Action::Check))
         }
         Err(_) => Err(AllocError),

@@ -3,7 +3,7 @@ ghost use Rattle.std.specs.Prelude.{◌≡◌};
 
 use std::alloc::{AllocError, Global};
 use std::io::Write;
-use wac_cli_console::{Console, Outcome, Report};
+use wac_cli_console::{Console, Outcome, Report, SourceFile};
 use wac_files::{FileError, FileSystem, Found};
 use wac_first_error::Reading;
 use wac_package_errors::flat_text;
@@ -28,7 +28,8 @@ fn source_of_bytes<O: Write + Drop, E: Write + Drop>(
     match flat_text(alloc, bytes) {
         Ok(Reading::Text(text)) => Ok(Source::Text(String::from_str(alloc, text)?)),
         Ok(Reading::Rejected(diagnostic)) => {
-            console.report(alloc, report, path, bytes, &diagnostic)?;
+            let file = SourceFile { path, text: bytes };
+            console.report(alloc, report, &file, &diagnostic)?;
             Ok(Source::Nothing(Outcome::Rejected))
         }
         Err(_) => Err(AllocError),

@@ -4,7 +4,7 @@ use std::alloc::{AllocError, Global};
 use std::io::Write;
 use wac_ast::Document;
 use wac_ast::internals::Statements;
-use wac_cli_console::{Action, Console, Outcome, Report, Status};
+use wac_cli_console::{Action, Console, Outcome, Report, SourceFile, Status};
 use wac_component_rules::ComponentRules;
 use wac_composition::{flat_text, graph_with};
 use wac_diagnostics::Diagnostic;
@@ -57,7 +57,8 @@ fn show_bytes<O: Write + Drop, E: Write + Drop>(
             Ok(Status::Well)
         }
         Shown::Rejected(diagnostic) => {
-            console.report(alloc, Report::Human, path, bytes, &diagnostic)?;
+            let file = SourceFile { path, text: bytes };
+            console.report(alloc, Report::Human, &file, &diagnostic)?;
             Ok(Outcome::Rejected.status(Action::Check))
         }
     }

@@ -6,7 +6,7 @@ use crate::sources::{Sources, read_sources};
 use indexmap::IndexMap;
 use std::alloc::{AllocError, Global};
 use std::io::Write;
-use wac_cli_console::{Action, Console, Outcome, Status};
+use wac_cli_console::{Action, Console, Outcome, SourceFile, Status};
 use wac_component_packages::{Components, Sought, Supplied, read_components, supply_components};
 use wac_files::{FileError, FileSystem, Found, find_files};
 use wac_graph::PackageKey;
@@ -307,16 +307,14 @@ impl Supply {
         setting: Setting<'_>,
         fault: &DeclarationFault,
     ) -> Result<(), AllocError> {
-        let name = text_at(self.sources.names.as_slice(), fault.text);
+        let path = text_at(self.sources.names.as_slice(), fault.text);
         let text = text_at(self.sources.texts.as_slice(), fault.text);
         let diagnostic = declaration_diagnostic(setting.alloc, text, &fault.error, setting.known)?;
-        console.report(
-            setting.alloc,
-            setting.report,
-            name,
-            text.as_bytes(),
-            &diagnostic,
-        )
+        let file = SourceFile {
+            path,
+            text: text.as_bytes(),
+        };
+        console.report(setting.alloc, setting.report, &file, &diagnostic)
     }
 
     /// Reports each fault, and that the file at a path can't be read.

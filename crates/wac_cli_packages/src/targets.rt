@@ -6,7 +6,7 @@ use crate::supply::{Supply, supply_beside};
 use crate::worlds::{Wanted, wanted_world};
 use std::alloc::{AllocError, Global};
 use std::io::Write;
-use wac_cli_console::{Action, Console, Outcome, Status};
+use wac_cli_console::{Action, Console, Outcome, SourceFile, Status};
 use wac_component_reading::{Converted, component_package, misfit};
 use wac_diagnostics::Diagnostic;
 use wac_files::{FileError, FileSystem};
@@ -138,8 +138,16 @@ fn check_bytes<O: Write + Drop, E: Write + Drop>(
             check_component(console, setting, paths, &component, bytes.1)
         }
         Ok(Converted::Rejected(diagnostic)) => {
-            reject(console, setting.0, (paths.0, b""), &diagnostic)?;
-            reject_world(console, setting, (paths.1, bytes.1))
+            let file = SourceFile {
+                path: paths.0,
+                text: b"",
+            };
+            reject(console, setting.0, &file, &diagnostic)?;
+            let world = SourceFile {
+                path: paths.1,
+                text: bytes.1,
+            };
+            reject_world(console, setting, &world)
         }
         Err(_) => Err(AllocError),
     }
@@ -158,10 +166,22 @@ fn check_component<O: Write + Drop, E: Write + Drop>(
             let misfit = misfit_of(setting.0.alloc, component, &expected, name.as_str())?;
             match misfit {
                 None => Ok(Status::Well),
-                Some(found) => reject(console, setting.0, (paths.0, b""), &found),
+                Some(found) => {
+                    let file = SourceFile {
+                        path: paths.0,
+                        text: b"",
+                    };
+                    reject(console, setting.0, &file, &found)
+                }
             }
         }
-        Ok(Wanted::Rejected(found)) => reject(console, setting.0, (paths.1, bytes), &found),
+        Ok(Wanted::Rejected(found)) => {
+            let file = SourceFile {
+                path: paths.1,
+                text: bytes,
+            };
+            reject(console, setting.0, &file, &found)
+        }
         Ok(Wanted::Unresolved) => Ok(Status::Wrong),
         Err(_) => Err(AllocError),
     }
@@ -171,9 +191,9 @@ fn check_component<O: Write + Drop, E: Write + Drop>(
 fn reject_world<O: Write + Drop, E: Write + Drop>(
     console: &mut Console<O, E>,
     setting: (Setting<'_>, Option<&str>),
-    file: (&str, &[u8]),
+    file: &SourceFile<'_>,
 ) -> Result<Status, AllocError> {
-    match wanted_world(setting.0, file.1, setting.1) {
+    match wanted_world(setting.0, file.text, setting.1) {
         Ok(Wanted::Rejected(diagnostic)) => reject(console, setting.0, file, &diagnostic),
         Ok(Wanted::World(_, _)) | Ok(Wanted::Unresolved) => Ok(Status::Wrong),
         Err(_) => Err(AllocError),
@@ -184,10 +204,10 @@ fn reject_world<O: Write + Drop, E: Write + Drop>(
 fn reject<O: Write + Drop, E: Write + Drop>(
     console: &mut Console<O, E>,
     setting: Setting<'_>,
-    file: (&str, &[u8]),
+    file: &SourceFile<'_>,
     diagnostic: &Diagnostic,
 ) -> Result<Status, AllocError> {
-    console.report(setting.alloc, setting.report, file.0, file.1, diagnostic)?;
+    console.report(setting.alloc, setting.report, file, diagnostic)?;
     Ok(Outcome::Rejected.status(Action::Check))
 }
 

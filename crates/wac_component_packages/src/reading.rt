@@ -6,10 +6,10 @@ use crate::keys::{is_component_file, key_of_path, package_key};
 use indexmap::IndexMap;
 use std::alloc::{AllocError, Global};
 use std::io::Write;
-use wac_cli_console::{Console, Outcome, Report};
+use wac_cli_console::{Console, Outcome, Report, SourceFile};
 use wac_component_reading::{Converted, component_package};
 use wac_diagnostics::Diagnostic;
-use wac_files::FileSystem;
+use wac_files::{FileError, FileSystem};
 use wac_graph::{Package, PackageKey};
 
 /// Where components are, what their packages are called, which worlds of them are chosen, and the form of errors.
@@ -44,6 +44,15 @@ pub struct Components {
     pub outcomes: Vec<Outcome>,
 }
 
+/// Why a file gives no package.
+#[derive(Drop)]
+enum Fault {
+    /// It could not be read.
+    Unread(FileError),
+    /// This is wrong with it.
+    Rejected(Diagnostic),
+}
+
 /// Reads the components of packages. What is wrong with a file is reported.
 pub fn read_components<F: FileSystem, O: Write + Drop, E: Write + Drop>(
     alloc: Global,
@@ -62,7 +71,10 @@ pub fn read_components<F: FileSystem, O: Write + Drop, E: Write + Drop>(
     };
     let found = all_files(alloc, files, sought)?;
     for file in found.as_slice() {
-        components.read(alloc, files, console, sought, file)?;
+        if let Some(fault) = components.read(alloc, files, sought.worlds, file)? {
+            let outcome = report_fault(alloc, console, sought.report, file, fault)?;
+            components.reject(alloc, file, outcome)?;
+        }
     }
     Ok(components)
 }
@@ -119,29 +131,23 @@ fn push_named(
 }
 
 impl Components {
-    /// Reads a file, and adds its component, or reports what is wrong.
-    fn read<F: FileSystem, O: Write + Drop, E: Write + Drop>(
+    /// Reads a file, and adds its component, or says why there is none.
+    fn read<F: FileSystem>(
         &mut self,
         alloc: Global,
         files: &mut F,
-        console: &mut Console<O, E>,
-        sought: Sought<'_>,
+        worlds: &[(&str, &str)],
         file: &ComponentFile,
-    ) -> Result<(), AllocError>
+    ) -> Result<Option<Fault>, AllocError>
         ensures { F.replaced files.new ≡ F.replaced files.old }
     {
-        let path = file.path.as_str();
-        let outcome = match files.read(alloc, path) {
-            Ok(bytes) => match self.add(alloc, sought.worlds, file, bytes.as_slice())? {
-                None => return Ok(()),
-                Some(diagnostic) => {
-                    console.report(alloc, sought.report, path, b"", &diagnostic)?;
-                    Outcome::Rejected
-                }
+        match files.read(alloc, file.path.as_str()) {
+            Ok(bytes) => match self.add(alloc, worlds, file, bytes.as_slice())? {
+                None => Ok(None),
+                Some(diagnostic) => Ok(Some(Fault::Rejected(diagnostic))),
             },
-            Err(error) => console.failed(alloc, sought.report, path, error),
-        };
-        self.reject(alloc, file, outcome)
+            Err(error) => Ok(Some(Fault::Unread(error))),
+        }
     }
 
     /// Keeps what became of a file that gives no package.
@@ -211,6 +217,24 @@ impl Components {
         let key = package_key(alloc, key)?;
         self.packages.insert(key, package)?;
         Ok(())
+    }
+}
+
+/// Reports why a file gives no package. Returns what became of it.
+fn report_fault<O: Write + Drop, E: Write + Drop>(
+    alloc: Global,
+    console: &mut Console<O, E>,
+    report: Report,
+    file: &ComponentFile,
+    fault: Fault,
+) -> Result<Outcome, AllocError> {
+    let path = file.path.as_str();
+    match fault {
+        Fault::Unread(error) => Ok(console.failed(alloc, report, path, error)),
+        Fault::Rejected(diagnostic) => {
+            console.report(alloc, report, &SourceFile { path, text: b"" }, &diagnostic)?;
+            Ok(Outcome::Rejected)
+        }
     }
 }
 

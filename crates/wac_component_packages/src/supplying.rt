@@ -4,7 +4,7 @@ use crate::reading::{Component, Components};
 use indexmap::IndexMap;
 use std::alloc::{AllocError, Global};
 use std::io::Write;
-use wac_cli_console::{Console, Outcome, Report};
+use wac_cli_console::{Console, Outcome, Report, SourceFile};
 use wac_component_reading::difference;
 use wac_diagnostics::Diagnostic;
 use wac_graph::{Package, PackageError, PackageKey};
@@ -75,7 +75,7 @@ fn supply<O: Write + Drop, E: Write + Drop>(
         None => Ok(Outcome::Good),
         Some(diagnostic) => {
             let path = decoded.component.path.as_str();
-            console.report(alloc, report, path, b"", &diagnostic)?;
+            console.report(alloc, report, &SourceFile { path, text: b"" }, &diagnostic)?;
             Ok(Outcome::Rejected)
         }
     }
