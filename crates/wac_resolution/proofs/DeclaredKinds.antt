@@ -5,7 +5,7 @@ use Rattle.wac_resolution_errors.specs.declared.error.Error.{Error as CodeError}
 use Rattle.wac_resolution_rules.specs.BrokenDeclarations.{TypeDeclBroken}
 use Rattle.wac_resolution_rules.specs.Declarations.{IsTypeDecl}
 use Rattle.wac_resolution_types.specs.Declarations.{KindAdded}
-use Rattle.wac_resolution_worlds.specs.Declared.{InterfaceDeclared, WorldDeclared}
+use Rattle.wac_resolution_worlds.specs.Declarations.{InterfaceDeclared, WorldDeclared}
 use Rattle.wac_resolution.specs.Definitions.{KindDeclared}
 
 -- what holds in the scope of the kinds holds in the root scope of the composition

@@ -6,7 +6,7 @@ use Rattle.wac_graph_types.specs.declared.kind.«Type».TheVariants as types
 use Rattle.wac_resolution_paths.specs.declared.context.Context.{Context}
 use Rattle.wac_resolution_worlds.specs.Made.{InterfaceMade}
 use Rattle.wac_resolution_worlds.specs.WorldItems.{WorldMade}
-use Rattle.wac_resolution_worlds.specs.Declared.{id_text, InterfaceDeclared, WorldDeclared}
+use Rattle.wac_resolution_worlds.specs.Declarations.{id_text, InterfaceDeclared, WorldDeclared}
 
 pub interface_declared : (context : Context) (old new : Parts) (root : Named ItemKind) (d : InterfaceDecl) (id : List ℕ) (i : InterfaceId) → id ≡ id_text context d.id.string
     → InterfaceMade context old new root (Some id) d.items i → InterfaceDeclared context old new root d (kinds.Ty (types.Interface i))

@@ -4,4 +4,4 @@ pub mod Referred
 pub mod Instances
 pub mod Made
 pub mod WorldItems
-pub mod Declared
+pub mod Declarations

@@ -11,7 +11,7 @@ ghost use Rattle.wac_resolution_state.specs.Bindings.{values_of};
 ghost use Rattle.wac_resolution_state.specs.Named.{scope_of};
 ghost use Rattle.wac_resolution_paths.specs.Expands.{AllSupplied};
 ghost use Rattle.wac_resolution_paths.specs.Context.{packages_in, context_of};
-ghost use Rattle.wac_resolution_worlds.specs.Declared.{id_text, InterfaceDeclared, WorldDeclared};
+ghost use Rattle.wac_resolution_worlds.specs.Declarations.{id_text, InterfaceDeclared, WorldDeclared};
 
 use crate::interfaces::interface;
 use crate::outer_scope::OuterScope;

@@ -1,6 +1,6 @@
 use Rattle.wac_resolution_worlds.proofs.Common.{List, map, subst, IfOk, IfErr, world_item_of, declared_count, Naming, Reports, told, WorldBroken, values_of, scope_of, context_of}
 use Rattle.wac_ast_worlds.specs.declared.world.WorldItem.{WorldItem}
-use Rattle.wac_resolution_worlds.specs.Declared.{WorldDeclared}
+use Rattle.wac_resolution_worlds.specs.Declarations.{WorldDeclared}
 use Rattle.wac_resolution_worlds.proofs.declared.world_decl.Goals as goal
 
 pub returns-clause-ok : goal.returns-clause-ok
