@@ -5,6 +5,8 @@ use Rattle.wac_ast_grammar.specs.Tree.{Statement}
 use Rattle.wac_graph_types.specs.Shape as shapes
 use Rattle.wac_graph_types.proofs.Shapes.{promoted_is}
 use Rattle.wac_resolution_bindings.specs.Imports.{ImportsAs}
+use Rattle.wac_resolution_rules.specs.Given.{Given}
+use Rattle.wac_resolution_rules.specs.Places.{Places}
 use Rattle.wac_resolution.specs.ImportTypes.{ImportMade, ImportTypeBreaks}
 use Rattle.wac_resolution_bindings.proofs.PlaceLaws.{one_more_at, no_more_at, same_places}
 use Rattle.wac_resolution_bindings.proofs.Importing.{placed_imported, handed_imported}
@@ -28,6 +30,11 @@ one_more_import c name k id =
     ap (filter_map import_of) (last_named c.nodes n id) ∙ filter_map-append import_of c.nodes (record n { name = Some id } ∷ [])
 
 -- ---- the statement
+
+-- the tests of an import's name read no number of resources
+without_resources : (s : Given) (c : Composition) (n : ℕ) (p : Places) (e : Error) (x : ImportStatement) (name : List ℕ) → ImportNameBroken s (with_resources c n) p e x name → ImportNameBroken s c p e x name
+without_resources s c n p e x name (inl h) = inl (record { kind = h.kind; previous = h.previous; imported = h.imported; place = h.place; error = h.error })
+without_resources s c n p e x name (inr h) = inr h
 
 module _ (context : Context) (rules : Rules) (old mid : Parts) (before : Root) (x : Externs) (s : ImportStatement) (name : List ℕ) (k : ItemKind)
     (stand : Stand context old before x) (made : ImportMade context old mid before s.ty k) (meant : (naming : Naming) → name ≡ name_imported s (means naming mid k)) where
@@ -80,7 +87,8 @@ module _ (context : Context) (rules : Rules) (old mid : Parts) (before : Root) (
     declared_count mid,
     made.is naming rules,
     subst (λ (l : List ℕ). ImportNameBroken (given_in naming context rules) (composed naming old before) (places_in before x) e s l) (meant naming)
-        (subst (λ (c : Composition). ImportNameBroken (given_in naming context rules) c (places_in before x) e s name) (composed_kept old mid before naming made.grows stand.agrees) (h naming (given_in naming context rules) refl)),
+        (without_resources (given_in naming context rules) (composed naming old before) (declared_count mid) (places_in before x) e s name
+        (subst (λ (c : Composition). ImportNameBroken (given_in naming context rules) c (places_in before x) e s name) (composed_kept old mid before naming made.grows stand.agrees) (h naming (given_in naming context rules) refl))),
   )
 
 pub type_breaks : (context : Context) (rules : Rules) (old : Parts) (before : Root) (x : Externs) (s : ImportStatement) (e : Error) → ImportTypeBreaks context old before s.ty e → Breaks context rules old before x (Statement.import_statement s) e
