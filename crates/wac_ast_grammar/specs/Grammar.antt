@@ -402,6 +402,20 @@ results_of (inr _) = ResultList.empty
 abbrev pub string_of : Item → String
 string_of x = record { value = between_quotes x.text; span = x.span }
 
+-- what the first makes of a choice's first part, or the second of its second
+infixr 15 ◌or◌
+abbrev pub ◌or◌ : {A B C : Type 0} → (A → C) → (B → C) → A ⊎ B → C
+(f or g) (inl x) = f x
+(f or g) (inr y) = g y
+
+-- a tree that is a choice's own
+abbrev pub itself : {A : Type 0} → A → A
+itself x = x
+
+-- a type that is one word
+abbrev pub word : (Span → Ty) → Item → Ty
+word made x = made x.span
+
 -- THE TREE of each symbol's parts
 abbrev pub build : (s : Sym) → Parts (rule s) → TreeOf s
 build document (ds, (d, xs)) = record { docs = ds; directive = d; statements = xs }
@@ -409,27 +423,20 @@ build directive (_, (name, (inl (_, path), _))) = record { package_name = name; 
 build directive (_, (name, (inr _, _))) = record { package_name = name; targets = None }
 build statements (inl _) = []
 build statements (inr (x, xs)) = x ∷ xs
-build statement (inl x) = Statement.import_statement x
-build statement (inr (inl x)) = Statement.let_statement x
-build statement (inr (inr (inl x))) = Statement.export_statement x
-build statement (inr (inr (inr x))) = Statement.type_statement x
+build statement p =
+    (Statement.import_statement or Statement.let_statement or Statement.export_statement
+    or Statement.type_statement) p
 build import_statement (ds, (_, (id, (inl (_, name), (_, (kind, _)))))) = record { docs = ds; id = id; name = Some name; ty = kind }
 build import_statement (ds, (_, (id, (inr _, (_, (kind, _)))))) = record { docs = ds; id = id; name = None; ty = kind }
-build extern_name (inl x) = ExternName.ident x
-build extern_name (inr x) = ExternName.string x
-build import_type (inl x) = ImportType.func x
-build import_type (inr (inl x)) = ImportType.interface x
-build import_type (inr (inr (inl x))) = ImportType.path x
-build import_type (inr (inr (inr x))) = ImportType.ident x
+build extern_name p = (ExternName.ident or ExternName.string) p
+build import_type p = (ImportType.func or ImportType.interface or ImportType.path or ImportType.ident) p
 build let_statement (ds, (_, (id, (_, (value, _))))) = record { docs = ds; id = id; expr = value }
 build export_statement (ds, (_, (value, (options, _)))) = record { docs = ds; expr = value; options = options }
 build export_options (inl dots) = ExportOptions.spread dots.span
 build export_options (inr (inl (_, name))) = ExportOptions.rename name
 build export_options (inr (inr _)) = ExportOptions.none
 build expr (first, others) = Expr.expr (join (primary_span first) (last_span (primary_span first) others)) first others
-build primary_expr (inl x) = x
-build primary_expr (inr (inl x)) = x
-build primary_expr (inr (inr x)) = PrimaryExpr.ident x
+build primary_expr p = (itself or itself or PrimaryExpr.ident) p
 build new_expr (first, (name, (_, (xs, last)))) = PrimaryExpr.new (join first.span last.span) name (arguments_from xs)
 build arguments p = listed p
 build more_arguments p = listed_more p
@@ -439,34 +446,22 @@ build argument (inr (inl (id, inl (_, value)))) = InstantiationArgument.named (I
 build argument (inr (inl (id, inr _))) = InstantiationArgument.inferred id
 build argument (inr (inr (x, (_, value)))) = InstantiationArgument.named (InstantiationArgumentName.string (string_of x)) value
 build named_argument (name, (_, value)) = record { name = name; expr = value }
-build argument_name (inl x) = InstantiationArgumentName.ident x
-build argument_name (inr x) = InstantiationArgumentName.string x
+build argument_name p = (InstantiationArgumentName.ident or InstantiationArgumentName.string) p
 build nested_expr (first, (inner, last)) = PrimaryExpr.nested (join first.span last.span) inner
 build postfixes (inl (x, xs)) = x ∷ xs
 build postfixes (inr _) = []
-build postfix_expr (inl x) = PostfixExpr.access x
-build postfix_expr (inr x) = PostfixExpr.named_access x
+build postfix_expr p = (PostfixExpr.access or PostfixExpr.named_access) p
 build access_expr (dot, id) = record { span = join dot.span id.span; id = id }
 build named_access_expr (first, (value, last)) = record { span = join first.span last.span; string = value }
-build type_statement (inl x) = TypeStatement.interface x
-build type_statement (inr (inl x)) = TypeStatement.world x
-build type_statement (inr (inr x)) = TypeStatement.ty x
-build type_decl (inl x) = TypeDecl.variant x
-build type_decl (inr (inl x)) = TypeDecl.record_decl x
-build type_decl (inr (inr (inl x))) = TypeDecl.flags x
-build type_decl (inr (inr (inr (inl x)))) = TypeDecl.enum x
-build type_decl (inr (inr (inr (inr x)))) = TypeDecl.alias x
-build item_type_decl (inl x) = ItemTypeDecl.resource x
-build item_type_decl (inr (inl x)) = ItemTypeDecl.variant x
-build item_type_decl (inr (inr (inl x))) = ItemTypeDecl.record_decl x
-build item_type_decl (inr (inr (inr (inl x)))) = ItemTypeDecl.flags x
-build item_type_decl (inr (inr (inr (inr (inl x))))) = ItemTypeDecl.enum x
-build item_type_decl (inr (inr (inr (inr (inr x))))) = ItemTypeDecl.alias x
+build type_statement p = (TypeStatement.interface or TypeStatement.world or TypeStatement.ty) p
+build type_decl p = (TypeDecl.variant or TypeDecl.record_decl or TypeDecl.flags or TypeDecl.enum or TypeDecl.alias) p
+build item_type_decl p =
+    (ItemTypeDecl.resource or ItemTypeDecl.variant or ItemTypeDecl.record_decl or ItemTypeDecl.flags
+    or ItemTypeDecl.enum or ItemTypeDecl.alias) p
 build resource_decl (ds, (_, (id, inl _))) = record { docs = ds; id = id; methods = [] }
 build resource_decl (ds, (_, (id, inr (_, xs)))) = record { docs = ds; id = id; methods = xs.0 }
 build methods p = listed p
-build resource_method (inl x) = ResourceMethod.constructor x
-build resource_method (inr x) = ResourceMethod.method x
+build resource_method p = (ResourceMethod.constructor or ResourceMethod.method) p
 build constructor (ds, (first, (_, (xs, _)))) = record { docs = ds; span = first.span; params = xs.0 }
 build method (ds, (id, (_, (inl _, (func, _))))) = record { docs = ds; id = id; is_static = true; ty = func }
 build method (ds, (id, (_, (inr _, (func, _))))) = record { docs = ds; id = id; is_static = false; ty = func }
@@ -488,10 +483,8 @@ build enum_cases p = listed p
 build more_enum_cases p = listed_more p
 build enum_case (ds, id) = record { docs = ds; id = id }
 build type_alias (ds, (_, (id, (_, (value, _))))) = record { docs = ds; id = id; kind = value }
-build type_alias_kind (inl x) = TypeAliasKind.func x
-build type_alias_kind (inr x) = TypeAliasKind.ty x
-build func_type_ref (inl x) = FuncTypeRef.func x
-build func_type_ref (inr x) = FuncTypeRef.ident x
+build type_alias_kind p = (TypeAliasKind.func or TypeAliasKind.ty) p
+build func_type_ref p = (FuncTypeRef.func or FuncTypeRef.ident) p
 build func_type (first, (_, (_, (xs, results)))) = record { is_async = is_there first; params = xs.0; results = results_of results }
 build params p = listed p
 build more_params p = listed_more p
@@ -499,28 +492,11 @@ build result_list (inl (_, (x, others))) = ResultList.named (x ∷ others.0)
 build result_list (inr (inl x)) = ResultList.scalar x
 build result_list (inr (inr _)) = ResultList.empty
 build named_type (id, (_, value)) = record { id = id; ty = value }
-build ty (inl x) = Ty.u8 x.span
-build ty (inr (inl x)) = Ty.s8 x.span
-build ty (inr (inr (inl x))) = Ty.u16 x.span
-build ty (inr (inr (inr (inl x)))) = Ty.s16 x.span
-build ty (inr (inr (inr (inr (inl x))))) = Ty.u32 x.span
-build ty (inr (inr (inr (inr (inr (inl x)))))) = Ty.s32 x.span
-build ty (inr (inr (inr (inr (inr (inr (inl x))))))) = Ty.u64 x.span
-build ty (inr (inr (inr (inr (inr (inr (inr (inl x)))))))) = Ty.s64 x.span
-build ty (inr (inr (inr (inr (inr (inr (inr (inr (inl x))))))))) = Ty.f32 x.span
-build ty (inr (inr (inr (inr (inr (inr (inr (inr (inr (inl x)))))))))) = Ty.f64 x.span
-build ty (inr (inr (inr (inr (inr (inr (inr (inr (inr (inr (inl x))))))))))) = Ty.char x.span
-build ty (inr (inr (inr (inr (inr (inr (inr (inr (inr (inr (inr (inl x)))))))))))) = Ty.bool x.span
-build ty (inr (inr (inr (inr (inr (inr (inr (inr (inr (inr (inr (inr (inl x))))))))))))) = Ty.string x.span
-build ty (inr (inr (inr (inr (inr (inr (inr (inr (inr (inr (inr (inr (inr (inl x)))))))))))))) = x
-build ty (inr (inr (inr (inr (inr (inr (inr (inr (inr (inr (inr (inr (inr (inr (inl x))))))))))))))) = x
-build ty (inr (inr (inr (inr (inr (inr (inr (inr (inr (inr (inr (inr (inr (inr (inr (inl x)))))))))))))))) = x
-build ty (inr (inr (inr (inr (inr (inr (inr (inr (inr (inr (inr (inr (inr (inr (inr (inr (inl x))))))))))))))))) = x
-build ty (inr (inr (inr (inr (inr (inr (inr (inr (inr (inr (inr (inr (inr (inr (inr (inr (inr (inl x)))))))))))))))))) = x
-build ty (inr (inr (inr (inr (inr (inr (inr (inr (inr (inr (inr (inr (inr (inr (inr (inr (inr (inr (inl x))))))))))))))))))) = x
-build ty (inr (inr (inr (inr (inr (inr (inr (inr (inr (inr (inr (inr (inr (inr (inr (inr (inr (inr (inr (inl x)))))))))))))))))))) = x
-build ty (inr (inr (inr (inr (inr (inr (inr (inr (inr (inr (inr (inr (inr (inr (inr (inr (inr (inr (inr (inr (inl x))))))))))))))))))))) = Ty.error_context x.span
-build ty (inr (inr (inr (inr (inr (inr (inr (inr (inr (inr (inr (inr (inr (inr (inr (inr (inr (inr (inr (inr (inr x))))))))))))))))))))) = Ty.ident x
+build ty p =
+    (word Ty.u8 or word Ty.s8 or word Ty.u16 or word Ty.s16 or word Ty.u32 or word Ty.s32 or word Ty.u64 or word Ty.s64
+    or word Ty.f32 or word Ty.f64 or word Ty.char or word Ty.bool or word Ty.string
+    or itself or itself or itself or itself or itself or itself or itself
+    or word Ty.error_context or Ty.ident) p
 build tuple_type (first, (_, (x, (xs, last)))) = Ty.tuple (Types.more x (types_from xs)) (join first.span last.span)
 build list_type (first, (_, (x, last))) = Ty.list x (join first.span last.span)
 build option_type (first, (_, (x, last))) = Ty.option x (join first.span last.span)
@@ -541,37 +517,29 @@ build payload (inr _) = None
 build interface_decl (ds, (_, (id, (_, xs)))) = record { docs = ds; id = id; items = xs.0 }
 build inline_interface (_, (_, xs)) = record { items = xs.0 }
 build interface_items p = listed p
-build interface_item (inl x) = InterfaceItem.use_statement x
-build interface_item (inr (inl x)) = InterfaceItem.interface_export x
-build interface_item (inr (inr x)) = InterfaceItem.ty x
+build interface_item p = (InterfaceItem.use_statement or InterfaceItem.interface_export or InterfaceItem.ty) p
 build interface_export (ds, (id, (_, (value, _)))) = record { docs = ds; id = id; ty = value }
 build use_statement (ds, (_, (path, (_, (_, (xs, _)))))) = record { docs = ds; path = path; items = xs.0 }
-build use_path (inl x) = UsePath.path x
-build use_path (inr x) = UsePath.ident x
+build use_path p = (UsePath.path or UsePath.ident) p
 build use_items p = listed p
 build more_use_items p = listed_more p
 build use_item (id, inl (_, name)) = record { id = id; as_id = Some name }
 build use_item (id, inr _) = record { id = id; as_id = None }
 build world_decl (ds, (_, (id, (_, xs)))) = record { docs = ds; id = id; items = xs.0 }
 build world_items p = listed p
-build world_item (inl x) = WorldItem.use_statement x
-build world_item (inr (inl x)) = WorldItem.world_import x
-build world_item (inr (inr (inl x))) = WorldItem.world_export x
-build world_item (inr (inr (inr (inl x)))) = WorldItem.world_include x
-build world_item (inr (inr (inr (inr x)))) = WorldItem.ty x
+build world_item p =
+    (WorldItem.use_statement or WorldItem.world_import or WorldItem.world_export or WorldItem.world_include
+    or WorldItem.ty) p
 build world_import (ds, (_, (path, _))) = record { docs = ds; path = path }
 build world_export (ds, (_, (path, _))) = record { docs = ds; path = path }
 build world_item_path (inl x) = WorldItemPath.path x
 build world_item_path (inr (id, inl (_, value))) = WorldItemPath.named (record { id = id; ty = value })
 build world_item_path (inr (id, inr _)) = WorldItemPath.ident id
 build named_world_item (id, (_, value)) = record { id = id; ty = value }
-build extern_type (inl x) = ExternType.ident x
-build extern_type (inr (inl x)) = ExternType.func x
-build extern_type (inr (inr x)) = ExternType.interface x
+build extern_type p = (ExternType.ident or ExternType.func or ExternType.interface) p
 build world_include (ds, (_, (world, (inl (_, (_, xs)), _)))) = record { docs = ds; world = world; items = xs.0 }
 build world_include (ds, (_, (world, (inr _, _)))) = record { docs = ds; world = world; items = [] }
-build world_ref (inl x) = WorldRef.path x
-build world_ref (inr x) = WorldRef.ident x
+build world_ref p = (WorldRef.path or WorldRef.ident) p
 build include_items p = listed p
 build more_include_items p = listed_more p
 build include_item (id, (_, name)) = record { from = id; to = name }
