@@ -4,7 +4,7 @@ use Rattle.wac_ast_grammar.proofs.Common.{append_cancel_right, Token, Error, Ite
 use Rattle.wac_lexer.specs.declared.token.Token.TheVariants as t
 use Rattle.wac_ast_grammar.specs.Tokens.{is_token, valid, at}
 use Rattle.wac_ast_grammar.specs.Grammar.{Sym, document, identifier, rule, build, TreeOf, Parts, Body, variant_body, record_body, flags_body, enum_body, Grammar, token, sym, then, either, nothing, to_end, docs, not_empty, more, or_told, docs_of}
-use Rattle.wac_ast_grammar.specs.Reading.{Tried, closing, can, closes, follows, Stop, Why, other, version, empty_body, told, refuse, mapped, pair_with, two, read, read_by, read_in, read_token, read_sym, led, is_empty, begins, first, at_one_of, may_leave, measure}
+use Rattle.wac_ast_grammar.specs.Reading.{Tried, closing, can, closes, follows, Stop, Why, other, version, empty_body, told, refuse, mapped, pair_with, two, read, read_by, read_in, read_token, read_sym, led, is_empty, begins, first, at_one_of, may_leave, enough}
 use Rattle.wac_ast_grammar.specs.Possible.{named}
 use Rattle.wac_ast_grammar.specs.Bodies.{keyword_of, Opens}
 use Rattle.wac_ast_grammar.proofs.Fixed.{Reader, Shrinks, in_shrinks, by_shrinks, both, both_left, both_right}
@@ -407,7 +407,7 @@ by_traces (suc n) s st xs h = traced_map st (after_sym st s) [] xs (read_in (rea
 
 traced : (s : Sym) (xs : List Item) → Traced outside (after_sym outside s) [] xs (read s xs)
 unfolding read
-traced s xs = by_traces (suc (measure s xs)) s outside xs refl
+traced s xs = by_traces (suc (enough xs)) s outside xs refl
 
 -- ---- in words
 

@@ -5,7 +5,8 @@ use Rattle.wac_lexer.specs.declared.token.Token.TheVariants as t
 use Rattle.wac_ast_grammar.specs.Tokens.{is_token, kind, valid}
 use Rattle.wac_ast_grammar.proofs.Tables.{all_tokens, among, within, same_token, begins_is}
 use Rattle.wac_ast_grammar.specs.Grammar.{Sym, rule, build, TreeOf, Parts, Grammar, token, sym, then, either, nothing, to_end, docs, not_empty, more, or_told, docs_of, DerivesIn, DerivesBy, Derives}
-use Rattle.wac_ast_grammar.specs.Reading.{Standing, at_once, closing, behind_comma, Tried, can, follows, empty, is_empty, begins, first, rank}
+use Rattle.wac_ast_grammar.specs.Reading.{Standing, at_once, closing, behind_comma, Tried, can, follows, empty, is_empty, begins, first}
+use Rattle.wac_ast_grammar.proofs.Ranks.{rank}
 use Rattle.wac_ast_grammar.specs.Possible.{same_standing, named, IsOf}
 use Rattle.wac_ast_grammar.proofs.Fixed.{both_left, both_right, empty_is, ranked, rule_ranked}
 use Rattle.wac_ast_grammar.proofs.Complete.{Family}

@@ -3,7 +3,8 @@ use Rattle.std.proofs.Common.{◌≡◌, ℕ, zero, suc, ◌+◌, ◌-◌, ◌*�
 use Rattle.wac_ast_grammar.proofs.Common.{ltb-true, Token, Item}
 use Rattle.wac_ast_grammar.specs.Tokens.{is_token, valid, at}
 use Rattle.wac_ast_grammar.specs.Grammar.{Sym, document, rule, build, TreeOf, Parts, Grammar, token, sym, then, either, nothing, to_end, docs, not_empty, more, or_told, docs_of}
-use Rattle.wac_ast_grammar.specs.Reading.{Tried, can, closes, Stop, refuse, mapped, pair_with, two, read, read_by, read_in, read_token, read_sym, led, built, empty, is_empty, begins, first, at_one_of, may_leave, rank, measure}
+use Rattle.wac_ast_grammar.specs.Reading.{Tried, can, closes, Stop, refuse, mapped, pair_with, two, read, read_by, read_in, read_token, read_sym, led, built, empty, is_empty, begins, first, at_one_of, may_leave, enough}
+use Rattle.wac_ast_grammar.proofs.Ranks.{rank, measure}
 
 -- ---- how much is taken
 
@@ -190,17 +191,23 @@ by_more : (d n : ℕ) (s : Sym) (xs : List Item) → measure s xs < n → read_b
 by_more zero n s xs lt = let e : n ≡ 0 + n = omega arith in ap (λ k. read_by k s xs) e
 by_more (suc d) n s xs lt = let e : suc (d + n) ≡ suc d + n = omega arith in by_more d n s xs lt ∙ by_agree (d + n) s xs (omega arith) ∙ ap (λ k. read_by k s xs) e
 
+is_enough : (s : Sym) (xs : List Item) → measure s xs < suc (enough xs)
+is_enough s xs = let b : rank s < 5 = ltb-true _ _ (rank_below s) in omega arith
+
 pub agree_read : (n : ℕ) → Agree n (read_by n) read
 unfolding read
-agree_read n s xs lt = let e : (n - suc (measure s xs)) + suc (measure s xs) ≡ n = omega arith in back (by_more (n - suc (measure s xs)) (suc (measure s xs)) s xs (omega arith) ∙ ap (λ k. read_by k s xs) e)
+agree_read n s xs lt =
+    let m : ℕ = suc (enough xs) in
+    let e : m + n ≡ n + m = omega arith in
+    by_more m n s xs lt ∙ ap (λ k. read_by k s xs) e ∙ back (by_more n m s xs (is_enough s xs))
 
 pub read_is : (s : Sym) (xs : List Item) → read s xs ≡ built s (read_in read (rule s) [] xs)
 unfolding read
-read_is s xs = ap (built s) (in_agree (measure s xs) (read_by (measure s xs)) read (agree_read (measure s xs)) (by_shrinks (measure s xs)) (rule s) [] xs (rank s) (rule_ranked s) (let b : rank s < 5 = ltb-true _ _ (rank_below s) in omega arith) (omega arith))
+read_is s xs = ap (built s) (in_agree (enough xs) (read_by (enough xs)) read (agree_read (enough xs)) (by_shrinks (enough xs)) (rule s) [] xs (rank s) (rule_ranked s) (let b : rank s < 5 = ltb-true _ _ (rank_below s) in omega arith) (let b : rank s < 5 = ltb-true _ _ (rank_below s) in omega arith))
 
 shrinks : (s : Sym) (xs : List Item) → Shrinks (empty s) xs (read s xs)
 unfolding read
-shrinks s xs = by_shrinks (suc (measure s xs)) s xs
+shrinks s xs = by_shrinks (suc (enough xs)) s xs
 
 pub takes : (s : Sym) (xs : List Item) (t : TreeOf s) (rest : List Item) → read s xs ≡ Ok (t, rest) → length rest ≤ length xs
 takes s xs t rest h = let k = subst (λ (m : Result (TreeOf s × List Item) Stop). Shrinks (empty s) xs m) h (shrinks s xs) in omega arith

@@ -1,4 +1,5 @@
 pub mod Common
+pub mod Ranks
 pub mod Fixed
 pub mod Tables
 pub mod Complete

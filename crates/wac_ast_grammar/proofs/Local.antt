@@ -3,7 +3,8 @@ use Rattle.std.proofs.Common.{◌≡◌, ℕ, zero, suc, ◌+◌, ◌-◌, ◌�
 use Rattle.wac_ast_grammar.proofs.Common.{Token, Item, Doc, Error}
 use Rattle.wac_ast_grammar.specs.Tokens.{is_token, is_bad, valid, at}
 use Rattle.wac_ast_grammar.specs.Grammar.{Sym, rule, build, TreeOf, Parts, Behind, anything, no_fault, one_among, Grammar, token, sym, then, either, nothing, to_end, docs, not_empty, more, or_told, docs_of, Derives}
-use Rattle.wac_ast_grammar.specs.Reading.{Tried, can, closes, follows, Stop, Why, other, version, empty_body, told, refuse, mapped, pair_with, read, read_by, read_in, read_token, read_sym, led, two, begins, first, at_one_of, may_leave, measure}
+use Rattle.wac_ast_grammar.specs.Reading.{Tried, can, closes, follows, Stop, Why, other, version, empty_body, told, refuse, mapped, pair_with, read, read_by, read_in, read_token, read_sym, led, two, begins, first, at_one_of, may_leave}
+use Rattle.wac_ast_grammar.proofs.Ranks.{measure}
 use Rattle.wac_ast_grammar.proofs.Fixed.{Reader, agree_read}
 use Rattle.wac_ast_grammar.proofs.Tables.{at_one_of_head, one_of, clashes, needs_more}
 use Rattle.wac_ast_grammar.proofs.Complete.{may_follow, complete_before}

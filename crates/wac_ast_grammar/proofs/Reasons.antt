@@ -4,7 +4,7 @@ use Rattle.wac_ast_grammar.proofs.Common.{Token, Item}
 use Rattle.wac_lexer.specs.declared.token.Token.TheVariants as t
 use Rattle.wac_ast_grammar.specs.Tokens.{is_token, valid, at}
 use Rattle.wac_ast_grammar.specs.Grammar.{Sym, document, rule, build, TreeOf, Parts, Grammar, token, sym, then, either, nothing, to_end, docs, not_empty, more, or_told, docs_of}
-use Rattle.wac_ast_grammar.specs.Reading.{Tried, can, closes, Stop, Why, other, version, empty_body, told, refuse, mapped, two, read, read_by, read_in, read_token, read_sym, led, begins, first, at_one_of, may_leave, measure}
+use Rattle.wac_ast_grammar.specs.Reading.{Tried, can, closes, Stop, Why, other, version, empty_body, told, refuse, mapped, two, read, read_by, read_in, read_token, read_sym, led, begins, first, at_one_of, may_leave, enough}
 use Rattle.wac_ast_grammar.proofs.Fixed.{Reader, both, both_left, both_right}
 use Rattle.wac_ast_grammar.proofs.Tables.{same_token}
 use Rattle.wac_ast_grammar.proofs.Completed.{same_is}
@@ -115,7 +115,7 @@ by_reason (suc n) s xs = reason_map (read_in (read_by n) (rule s) [] xs) (build 
 
 reasoned : (s : Sym) (xs : List Item) → Reasoned (read s xs)
 unfolding read
-reasoned s xs = by_reason (suc (measure s xs)) s xs
+reasoned s xs = by_reason (suc (enough xs)) s xs
 
 pub reason : (s : Sym) (xs : List Item) (stop : Stop) → read s xs ≡ Err stop → Reason stop.why stop.left stop.expected
 reason s xs stop h = subst (λ (m : Result (TreeOf s × List Item) Stop). Reasoned m) h (reasoned s xs)

@@ -4,7 +4,7 @@ use Rattle.wac_ast_grammar.proofs.Common.{append-nil, length-append, Token, Item
 use Rattle.wac_lexer.specs.declared.token.Token.TheVariants as t
 use Rattle.wac_ast_grammar.specs.Tokens.{is_token}
 use Rattle.wac_ast_grammar.specs.Grammar.{Sym, argument, rule, build, TreeOf, Parts, Grammar, DerivesIn, DerivesBy, Derives}
-use Rattle.wac_ast_grammar.specs.Reading.{Standing, at_once, closing, behind_comma, Stop, before, other, read, read_by, read_in, is_empty, measure}
+use Rattle.wac_ast_grammar.specs.Reading.{Standing, at_once, closing, behind_comma, Stop, before, other, read, read_by, read_in, is_empty, enough}
 use Rattle.wac_ast_grammar.specs.Viable.{Viable, Similar, Leads}
 use Rattle.wac_ast_grammar.specs.Possible.{named}
 use Rattle.wac_ast_grammar.specs.Stopped.{Fault, CanStand, CanFollowComma, Stands, Stopped}
@@ -42,7 +42,7 @@ by_stops (suc n) s xs = stops_pass (DerivesIn Derives (rule s)) (Derives s) (bui
 
 stops : (s : Sym) (xs : List Item) → Stops (Derives s) [] xs (read s xs)
 unfolding read
-stops s xs = by_stops (suc (measure s xs)) s xs
+stops s xs = by_stops (suc (enough xs)) s xs
 
 viable_of : (s : Sym) (front ys : List Item) (t : TreeOf s) → Derives s (front ++ ys) t → Viable s front
 viable_of s front ys t d = (front ++ ys, t, leads_self front ys, d)

@@ -3,7 +3,7 @@ use Rattle.std.proofs.Common.{◌≡◌, ℕ, zero, suc, List, [], ◌∷◌, �
 use Rattle.wac_ast_grammar.proofs.Common.{Token, Item, Doc}
 use Rattle.wac_ast_grammar.specs.Tokens.{is_token, valid, at}
 use Rattle.wac_ast_grammar.specs.Grammar.{Sym, rule, build, TreeOf, Parts, Grammar, token, sym, then, either, nothing, to_end, docs, not_empty, more, or_told, docs_of, DerivesIn, DerivesBy, Derives}
-use Rattle.wac_ast_grammar.specs.Reading.{Tried, can, closes, Stop, version, refuse, mapped, pair_with, read, read_by, read_in, read_token, read_sym, led, two, is_empty, begins, first, at_one_of, may_leave, measure}
+use Rattle.wac_ast_grammar.specs.Reading.{Tried, can, closes, Stop, version, refuse, mapped, pair_with, read, read_by, read_in, read_token, read_sym, led, two, is_empty, begins, first, at_one_of, may_leave, enough}
 use Rattle.wac_ast_grammar.proofs.Fixed.{Reader, both, both_left, both_right}
 use Rattle.wac_ast_grammar.proofs.Tables.{continues, negated, not_true, lawful, rule_lawful, apart, among, pickable, clash, both_lawful}
 use Rattle.wac_ast_grammar.proofs.Complete.{Family, begins_in, by_begins}
@@ -94,5 +94,5 @@ by_sound (suc n) s xs = fronted_map (DerivesIn (DerivesBy n) (rule s)) (DerivesB
 pub sound : (s : Sym) (xs : List Item) (t : TreeOf s) (rest : List Item) → read s xs ≡ Ok (t, rest) → (front : List Item) × (xs ≡ front ++ rest) × Derives s front t
 unfolding read
 sound s xs t rest h =
-    let d = subst (λ (m : Result (TreeOf s × List Item) Stop). Fronted (DerivesBy (suc (measure s xs)) s) xs m) h (by_sound (suc (measure s xs)) s xs) in
-    (d.0, d.1, (suc (measure s xs), d.2))
+    let d = subst (λ (m : Result (TreeOf s × List Item) Stop). Fronted (DerivesBy (suc (enough xs)) s) xs m) h (by_sound (suc (enough xs)) s xs) in
+    (d.0, d.1, (suc (enough xs), d.2))

@@ -4,7 +4,7 @@ use Rattle.wac_ast_grammar.proofs.Common.{append_cancel_right, Token, Error, Ite
 use Rattle.wac_lexer.specs.declared.token.Token.TheVariants as t
 use Rattle.wac_ast_grammar.specs.Tokens.{is_token, valid, at}
 use Rattle.wac_ast_grammar.specs.Grammar.{Sym, document, argument, arguments, rule, build, TreeOf, Parts, Grammar, token, sym, then, either, nothing, to_end, docs, not_empty, more, or_told, docs_of}
-use Rattle.wac_ast_grammar.specs.Reading.{Tried, can, closes, follows, Stop, Why, other, version, empty_body, told, refuse, mapped, pair_with, two, read, read_by, read_in, read_token, read_sym, led, empty, begins, first, at_one_of, may_leave, measure}
+use Rattle.wac_ast_grammar.specs.Reading.{Tried, can, closes, follows, Stop, Why, other, version, empty_body, told, refuse, mapped, pair_with, two, read, read_by, read_in, read_token, read_sym, led, empty, begins, first, at_one_of, may_leave, enough}
 use Rattle.wac_ast_grammar.specs.Arguments.{EndsWithArgument, IsAlone, EndsArgued}
 use Rattle.wac_ast_grammar.proofs.Fixed.{Reader, both, both_left, both_right}
 use Rattle.wac_ast_grammar.proofs.Tables.{negated, same_token, among}
@@ -286,7 +286,7 @@ begun_well _ = refl
 
 traced : (s : Sym) (xs : List Item) → Traced (begun s) plain xs (read s xs)
 unfolding read
-traced s xs = by_traces (suc (measure s xs)) s (begun s) xs (begun_well s)
+traced s xs = by_traces (suc (enough xs)) s (begun s) xs (begun_well s)
 
 -- ---- in words
 

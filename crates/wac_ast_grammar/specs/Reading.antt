@@ -1,5 +1,5 @@
 -- Reading from left to right with one item of lookahead: how the grammar is decided, and what a rejection names.
-use Rattle.std.specs.Prelude.{ℕ, zero, suc, ◌+◌, ◌*◌, List, [], ◌∷◌, ◌++◌, length, map, max, Result, Ok, Err, Bool, true, false, cond}
+use Rattle.std.specs.Prelude.{ℕ, zero, suc, ◌+◌, ◌*◌, List, [], ◌∷◌, ◌++◌, length, map, Result, Ok, Err, Bool, true, false, cond}
 use Rattle.std.proofs.Common.{inl, inr}
 use Rattle.wac_lexer.specs.declared.token.Token.{Token}
 use Rattle.wac_lexer.specs.Item.{Item}
@@ -69,8 +69,8 @@ pair_with a m = mapped (λ b. (a, b)) m
 abbrev pub two : {A B : Type 0} → Result (A × List Item) Stop → (A → List Item → Result (B × List Item) Stop) → Result ((A × B) × List Item) Stop
 two m f = m >>= λ a. pair_with a.0 (f a.0 a.1)
 
--- Of a grammar, where it is known of the symbols: whether the empty list derives it, the tokens that its items begin with, and how deep it
--- begins with symbols.
+-- Of a grammar, where it is known of the symbols: whether the empty list derives it, and the tokens that its items begin
+-- with.
 abbrev pub is_empty_by : (Sym → Bool) → Grammar → Bool
 is_empty_by known (token k) = false
 is_empty_by known (sym s) = known s
@@ -122,26 +122,6 @@ begins s = begins_by depth s
 abbrev pub first : Grammar → List Token
 first g = first_by begins g
 
-abbrev pub depth_by : (Sym → ℕ) → Grammar → ℕ
-depth_by known (token k) = 0
-depth_by known (sym s) = suc (known s)
-depth_by known (then g h) = cond (is_empty g) (max (depth_by known g) (depth_by known h)) (depth_by known g)
-depth_by known (either loud g h) = max (depth_by known g) (depth_by known h)
-depth_by known (nothing b) = 0
-depth_by known (to_end g) = depth_by known g
-depth_by known (docs g) = depth_by known g
-depth_by known (not_empty e k g) = depth_by known g
-depth_by known (more k s g) = depth_by known g
-depth_by known (or_told g k h) = depth_by known g
-
-abbrev pub rank_by : ℕ → Sym → ℕ
-rank_by zero s = 0
-rank_by (suc n) s = depth_by (rank_by n) (rule s)
-
--- a symbol's rule begins with symbols of lower rank alone
-abbrev pub rank : Sym → ℕ
-rank s = rank_by depth s
-
 -- the next item is one of these tokens
 abbrev pub at_one_of : List Token → List Item → Bool
 at_one_of [] xs = false
@@ -190,8 +170,9 @@ abbrev pub read_by : ℕ → (s : Sym) → List Item → Result (TreeOf s × Lis
 read_by zero s xs = refuse xs []
 read_by (suc n) s xs = built s (read_in (read_by n) (rule s) [] xs)
 
-abbrev pub measure : Sym → List Item → ℕ
-measure s xs = length xs * 5 + rank s
+-- deep enough for every symbol: before each item and at the end, symbols begin with symbols at most five deep
+abbrev pub enough : List Item → ℕ
+enough xs = length xs * depth + depth
 
 unfoldable pub read : (s : Sym) → List Item → Result (TreeOf s × List Item) Stop
-read s xs = read_by (suc (measure s xs)) s xs
+read s xs = read_by (suc (enough xs)) s xs

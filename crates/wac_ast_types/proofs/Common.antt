@@ -10,8 +10,9 @@ pub use Rattle.wac_ast_base.specs.Answer.{End, Fails, Gives, TakesOptional, end_
 pub use Rattle.wac_ast_base.specs.Pieces.{GivesPart}
 pub use Rattle.wac_ast_base.specs.declared.error.Error.{Error}
 pub use Rattle.wac_ast_grammar.proofs.Fixed.{read_is, takes_some}
+pub use Rattle.wac_ast_grammar.proofs.Ranks.{measure}
 pub use Rattle.wac_ast_grammar.specs.Grammar.{Grammar, Listed, Parts, Sym, TreeOf, borrow_type, build, constructor, docs, docs_of, enum_case, enum_decl, field, flag, flags_decl, func_type, func_type_ref, identifier, is_there, item_type_decl, method, named_type, optional, record_decl, resource_decl, resource_method, result_list, results_of, then, token, type_alias, type_alias_kind, type_decl, variant_case, variant_decl}
-pub use Rattle.wac_ast_grammar.specs.Reading.{Stop, at_one_of, begins, built, can, mapped, measure, pair_with, read, read_in, read_token, refuse, two}
+pub use Rattle.wac_ast_grammar.specs.Reading.{Stop, at_one_of, begins, built, can, mapped, pair_with, read, read_in, read_token, refuse, two}
 pub use Rattle.wac_ast_grammar.specs.Tokens.{at, is_token}
 pub use Rattle.wac_ast_grammar.specs.Tree.{Ident, NamedType, OptionalTy, ResultList, Ty, Types, join, types_from}
 pub use Rattle.wac_lexer.specs.Item.{Doc, Item, behind_first, handed}
