@@ -175,35 +175,35 @@ by_rules {A = A} k ks ri rl rm items over rest = record { is_list = record { ite
         (twice inl (listed_more {A = A}) (λ y. ([], y)) (λ y. refl) (read_token [] k (x ∷ xs)))
         (twice inr (listed_more {A = A}) (λ p. p.1) (λ p. refl) (two (read_token [] t.Comma (x ∷ xs)) (λ a. rl)))
 
-flags_list : IsCommaList t.CloseBrace (begins g.flag) (read g.flag) (read g.flags) (read g.more_flags)
-flags_list = by_rules t.CloseBrace (begins g.flag) (read g.flag) (read g.flags) (read g.more_flags) (read_is g.flags) (read_is g.more_flags []) (λ x xs. read_is g.more_flags (x ∷ xs))
+flags_list : IsCommaList t.CloseBrace (begins g.flag) (read g.flag) (read (g.list_items g.flags)) (read (g.more_items g.flags))
+flags_list = by_rules t.CloseBrace (begins g.flag) (read g.flag) (read (g.list_items g.flags)) (read (g.more_items g.flags)) (read_is (g.list_items g.flags)) (read_is (g.more_items g.flags) []) (λ x xs. read_is (g.more_items g.flags) (x ∷ xs))
 
 closer_is : (a k : Token) → Some a ≡ Some k → a ≡ k
 closer_is a k h = cc
 
-arguments_list : IsCommaList t.CloseBrace (begins g.argument) (read g.argument) (read g.arguments) (read g.more_arguments)
-arguments_list = by_rules t.CloseBrace (begins g.argument) (read g.argument) (read g.arguments) (read g.more_arguments) (read_is g.arguments) (read_is g.more_arguments []) (λ x xs. read_is g.more_arguments (x ∷ xs))
+arguments_list : IsCommaList t.CloseBrace (begins g.argument) (read g.argument) (read (g.list_items g.arguments)) (read (g.more_items g.arguments))
+arguments_list = by_rules t.CloseBrace (begins g.argument) (read g.argument) (read (g.list_items g.arguments)) (read (g.more_items g.arguments)) (read_is (g.list_items g.arguments)) (read_is (g.more_items g.arguments) []) (λ x xs. read_is (g.more_items g.arguments) (x ∷ xs))
 
-cases_list : IsCommaList t.CloseBrace (begins g.variant_case) (read g.variant_case) (read g.cases) (read g.more_cases)
-cases_list = by_rules t.CloseBrace (begins g.variant_case) (read g.variant_case) (read g.cases) (read g.more_cases) (read_is g.cases) (read_is g.more_cases []) (λ x xs. read_is g.more_cases (x ∷ xs))
+cases_list : IsCommaList t.CloseBrace (begins g.variant_case) (read g.variant_case) (read (g.list_items g.cases)) (read (g.more_items g.cases))
+cases_list = by_rules t.CloseBrace (begins g.variant_case) (read g.variant_case) (read (g.list_items g.cases)) (read (g.more_items g.cases)) (read_is (g.list_items g.cases)) (read_is (g.more_items g.cases) []) (λ x xs. read_is (g.more_items g.cases) (x ∷ xs))
 
-fields_list : IsCommaList t.CloseBrace (begins g.field) (read g.field) (read g.fields) (read g.more_fields)
-fields_list = by_rules t.CloseBrace (begins g.field) (read g.field) (read g.fields) (read g.more_fields) (read_is g.fields) (read_is g.more_fields []) (λ x xs. read_is g.more_fields (x ∷ xs))
+fields_list : IsCommaList t.CloseBrace (begins g.field) (read g.field) (read (g.list_items g.fields)) (read (g.more_items g.fields))
+fields_list = by_rules t.CloseBrace (begins g.field) (read g.field) (read (g.list_items g.fields)) (read (g.more_items g.fields)) (read_is (g.list_items g.fields)) (read_is (g.more_items g.fields) []) (λ x xs. read_is (g.more_items g.fields) (x ∷ xs))
 
-enum_cases_list : IsCommaList t.CloseBrace (begins g.enum_case) (read g.enum_case) (read g.enum_cases) (read g.more_enum_cases)
-enum_cases_list = by_rules t.CloseBrace (begins g.enum_case) (read g.enum_case) (read g.enum_cases) (read g.more_enum_cases) (read_is g.enum_cases) (read_is g.more_enum_cases []) (λ x xs. read_is g.more_enum_cases (x ∷ xs))
+enum_cases_list : IsCommaList t.CloseBrace (begins g.enum_case) (read g.enum_case) (read (g.list_items g.enum_cases)) (read (g.more_items g.enum_cases))
+enum_cases_list = by_rules t.CloseBrace (begins g.enum_case) (read g.enum_case) (read (g.list_items g.enum_cases)) (read (g.more_items g.enum_cases)) (read_is (g.list_items g.enum_cases)) (read_is (g.more_items g.enum_cases) []) (λ x xs. read_is (g.more_items g.enum_cases) (x ∷ xs))
 
-params_list : IsCommaList t.CloseParen (begins g.named_type) (read g.named_type) (read g.params) (read g.more_params)
-params_list = by_rules t.CloseParen (begins g.named_type) (read g.named_type) (read g.params) (read g.more_params) (read_is g.params) (read_is g.more_params []) (λ x xs. read_is g.more_params (x ∷ xs))
+params_list : IsCommaList t.CloseParen (begins g.named_type) (read g.named_type) (read (g.list_items g.params)) (read (g.more_items g.params))
+params_list = by_rules t.CloseParen (begins g.named_type) (read g.named_type) (read (g.list_items g.params)) (read (g.more_items g.params)) (read_is (g.list_items g.params)) (read_is (g.more_items g.params) []) (λ x xs. read_is (g.more_items g.params) (x ∷ xs))
 
-types_list : IsCommaList t.CloseAngle (begins g.ty) (read g.ty) (read g.types) (read g.more_types)
-types_list = by_rules t.CloseAngle (begins g.ty) (read g.ty) (read g.types) (read g.more_types) (read_is g.types) (read_is g.more_types []) (λ x xs. read_is g.more_types (x ∷ xs))
+types_list : IsCommaList t.CloseAngle (begins g.ty) (read g.ty) (read (g.list_items g.types)) (read (g.more_items g.types))
+types_list = by_rules t.CloseAngle (begins g.ty) (read g.ty) (read (g.list_items g.types)) (read (g.more_items g.types)) (read_is (g.list_items g.types)) (read_is (g.more_items g.types) []) (λ x xs. read_is (g.more_items g.types) (x ∷ xs))
 
-use_items_list : IsCommaList t.CloseBrace (begins g.use_item) (read g.use_item) (read g.use_items) (read g.more_use_items)
-use_items_list = by_rules t.CloseBrace (begins g.use_item) (read g.use_item) (read g.use_items) (read g.more_use_items) (read_is g.use_items) (read_is g.more_use_items []) (λ x xs. read_is g.more_use_items (x ∷ xs))
+use_items_list : IsCommaList t.CloseBrace (begins g.use_item) (read g.use_item) (read (g.list_items g.use_items)) (read (g.more_items g.use_items))
+use_items_list = by_rules t.CloseBrace (begins g.use_item) (read g.use_item) (read (g.list_items g.use_items)) (read (g.more_items g.use_items)) (read_is (g.list_items g.use_items)) (read_is (g.more_items g.use_items) []) (λ x xs. read_is (g.more_items g.use_items) (x ∷ xs))
 
-include_items_list : IsCommaList t.CloseBrace (begins g.include_item) (read g.include_item) (read g.include_items) (read g.more_include_items)
-include_items_list = by_rules t.CloseBrace (begins g.include_item) (read g.include_item) (read g.include_items) (read g.more_include_items) (read_is g.include_items) (read_is g.more_include_items []) (λ x xs. read_is g.more_include_items (x ∷ xs))
+include_items_list : IsCommaList t.CloseBrace (begins g.include_item) (read g.include_item) (read (g.list_items g.include_items)) (read (g.more_items g.include_items))
+include_items_list = by_rules t.CloseBrace (begins g.include_item) (read g.include_item) (read (g.list_items g.include_items)) (read (g.more_items g.include_items)) (read_is (g.list_items g.include_items)) (read_is (g.more_items g.include_items) []) (λ x xs. read_is (g.more_items g.include_items) (x ∷ xs))
 
 -- each is a comma list
 pub comma_list : (s : Sym) (k : Token) → closes s ≡ Some k → IsCommaList k (begins s) (read s) (list_of s) (more_of s)

@@ -7,7 +7,7 @@ use Rattle.wac_lexer.specs.declared.token.Token.{Token}
 use Rattle.wac_lexer.specs.declared.token.Token.TheVariants as t
 use Rattle.wac_ast_base.specs.declared.error.Error.{Error}
 use Rattle.wac_ast_grammar.specs.Tokens.{at}
-use Rattle.wac_ast_grammar.specs.Grammar.{Sym, TreeOf, Listed, arguments, more_arguments, argument, cases, more_cases, variant_case, fields, more_fields, field, flags, more_flags, flag, enum_cases, more_enum_cases, enum_case, params, more_params, named_type, types, more_types, ty, use_items, more_use_items, use_item, include_items, more_include_items, include_item, methods, resource_method, interface_items, interface_item, world_items, world_item}
+use Rattle.wac_ast_grammar.specs.Grammar.{Sym, TreeOf, Listed, arguments, argument, cases, variant_case, fields, field, flags, flag, enum_cases, enum_case, params, named_type, types, ty, use_items, use_item, include_items, include_item, methods, resource_method, interface_items, interface_item, world_items, world_item, list_items, more_items}
 use Rattle.wac_ast_grammar.specs.Reading.{Stop, can, follows, refuse, mapped, two, read_token, read_sym, read}
 use Rattle.wac_ast_base.specs.Error.{Told, expected}
 use Rattle.wac_ast_base.specs.Lookahead.{refusal}
@@ -70,28 +70,28 @@ closes _ = None
 
 -- how the list is read
 abbrev pub list_of : (s : Sym) → List Item → Reads (Listed (TreeOf s))
-list_of argument = read arguments
-list_of variant_case = read cases
-list_of field = read fields
-list_of flag = read flags
-list_of enum_case = read enum_cases
-list_of named_type = read params
-list_of ty = read types
-list_of use_item = read use_items
-list_of include_item = read include_items
+list_of argument = read (list_items arguments)
+list_of variant_case = read (list_items cases)
+list_of field = read (list_items fields)
+list_of flag = read (list_items flags)
+list_of enum_case = read (list_items enum_cases)
+list_of named_type = read (list_items params)
+list_of ty = read (list_items types)
+list_of use_item = read (list_items use_items)
+list_of include_item = read (list_items include_items)
 list_of _ = λ xs. refuse xs []
 
 -- how what follows an item is read
 abbrev pub more_of : (s : Sym) → List Item → Reads (Listed (TreeOf s))
-more_of argument = read more_arguments
-more_of variant_case = read more_cases
-more_of field = read more_fields
-more_of flag = read more_flags
-more_of enum_case = read more_enum_cases
-more_of named_type = read more_params
-more_of ty = read more_types
-more_of use_item = read more_use_items
-more_of include_item = read more_include_items
+more_of argument = read (more_items arguments)
+more_of variant_case = read (more_items cases)
+more_of field = read (more_items fields)
+more_of flag = read (more_items flags)
+more_of enum_case = read (more_items enum_cases)
+more_of named_type = read (more_items params)
+more_of ty = read (more_items types)
+more_of use_item = read (more_items use_items)
+more_of include_item = read (more_items include_items)
 more_of _ = λ xs. refuse xs []
 
 -- ---- the bodies of the grammar, which are lists without commas in braces, by their items

@@ -8,7 +8,7 @@ use Rattle.wac_ast_base.specs.declared.error.Error.{Error}
 use Rattle.wac_lexer.specs.declared.token.Token.TheVariants as t
 use Rattle.wac_ast_base.specs.declared.pieces.BodyKind.{BodyKind}
 use Rattle.wac_ast_base.specs.declared.pieces.BodyKind.TheVariants as kinds
-use Rattle.wac_ast_grammar.specs.Grammar.{Body, Sym, TreeOf, Grammar, Parts, token, sym, nothing, anything, not_empty, optional, ◌▸◌, variant_body, record_body, flags_body, enum_body, variant_case, more_cases, field, more_fields, flag, more_flags, enum_case, more_enum_cases}
+use Rattle.wac_ast_grammar.specs.Grammar.{Body, Sym, TreeOf, Grammar, Parts, token, sym, nothing, anything, not_empty, optional, ◌▸◌, variant_body, record_body, flags_body, enum_body, variant_case, field, flag, enum_case, cases, fields, flags, enum_cases, more_items}
 use Rattle.wac_ast_grammar.specs.Reading.{read, read_in}
 use Rattle.wac_ast_base.specs.Answer.{end_of_input, Fails}
 
@@ -50,10 +50,10 @@ body_of_items _ = None
 
 -- the body, from its opening brace on
 abbrev pub filled : Sym → Grammar
-filled variant_case = token t.OpenBrace ▸ not_empty variant_body t.CloseBrace (sym variant_case ▸ sym more_cases)
-filled field = token t.OpenBrace ▸ not_empty record_body t.CloseBrace (sym field ▸ sym more_fields)
-filled flag = token t.OpenBrace ▸ not_empty flags_body t.CloseBrace (sym flag ▸ sym more_flags)
-filled enum_case = token t.OpenBrace ▸ not_empty enum_body t.CloseBrace (sym enum_case ▸ sym more_enum_cases)
+filled variant_case = token t.OpenBrace ▸ not_empty variant_body t.CloseBrace (sym variant_case ▸ sym (more_items cases))
+filled field = token t.OpenBrace ▸ not_empty record_body t.CloseBrace (sym field ▸ sym (more_items fields))
+filled flag = token t.OpenBrace ▸ not_empty flags_body t.CloseBrace (sym flag ▸ sym (more_items flags))
+filled enum_case = token t.OpenBrace ▸ not_empty enum_body t.CloseBrace (sym enum_case ▸ sym (more_items enum_cases))
 filled _ = nothing anything
 
 abbrev pub filled_items : (s : Sym) → Parts (filled s) → List (TreeOf s)

@@ -374,7 +374,7 @@ fn parse_arguments<'a>(
     alloc: Global,
     lexer: &mut Lexer<'a>,
 ) -> ParseResult<Vec<InstantiationArgument<'a>>>
-    ensures gives { Gives (λ v. map argument_of v.items) result lexer.old lexer.new (unclosed (read symbols.arguments (left lexer.old))) }
+    ensures gives { Gives (λ v. map argument_of v.items) result lexer.old lexer.new (unclosed (read (symbols.list_items symbols.arguments) (left lexer.old))) }
     ensures closed { OnOk result (at tokens.CloseBrace (left lexer.new) ≡ true) }
     ensures source { lexer.new.source ≡ lexer.old.source }
     ensures moves { lexer.old.place ≤ lexer.new.place }

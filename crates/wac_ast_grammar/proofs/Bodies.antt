@@ -3,7 +3,7 @@ use Rattle.std.proofs.Common.{◌≡◌, ℕ, zero, suc, arith, List, [], ◌∷
 use Rattle.wac_ast_grammar.proofs.Common.{append_cancel_right, Token, Error, Item}
 use Rattle.wac_lexer.specs.declared.token.Token.TheVariants as t
 use Rattle.wac_ast_grammar.specs.Tokens.{is_token, valid, at}
-use Rattle.wac_ast_grammar.specs.Grammar.{Sym, document, identifier, rule, build, TreeOf, Parts, Body, variant_body, record_body, flags_body, enum_body, Grammar, token, sym, then, either, nothing, to_end, docs, not_empty, more, or_told, docs_of}
+use Rattle.wac_ast_grammar.specs.Grammar.{Sym, identifier, rule, build, TreeOf, Parts, Body, variant_body, record_body, flags_body, enum_body, Grammar, token, sym, then, either, nothing, to_end, docs, not_empty, more, or_told, docs_of, list_items, more_items, arguments}
 use Rattle.wac_ast_grammar.specs.Reading.{Tried, closing, can, closes, follows, Stop, Why, other, version, empty_body, told, refuse, mapped, pair_with, two, read, read_by, read_in, read_token, read_sym, led, is_empty, begins, first, at_one_of, may_leave, enough}
 use Rattle.wac_ast_grammar.specs.Possible.{named}
 use Rattle.wac_ast_grammar.specs.Bodies.{keyword_of, Opens}
@@ -132,11 +132,13 @@ well st (more k s g) = both (is_outside st) (both (well outside g) (is_outside (
 well st (or_told g k h) = both (is_outside st) (both (both (well outside g) (is_outside (after outside g))) (both (is_outside (step outside k)) (both (well outside h) (is_outside (after outside h)))))
 
 pub rule_well : (s : Sym) → well outside (rule s) ≡ true
-rule_well document = refl
+rule_well (list_items arguments) = refl
+rule_well (more_items arguments) = refl
 rule_well _ = refl
 
 pub rule_after : (s : Sym) → is_outside (after outside (rule s)) ≡ true
-rule_after document = refl
+rule_after (list_items arguments) = refl
+rule_after (more_items arguments) = refl
 rule_after _ = refl
 
 outside_is : (st : State) → is_outside st ≡ true → st ≡ outside

@@ -3,7 +3,7 @@ use Rattle.std.proofs.Common.{◌≡◌, ℕ, zero, suc, true, Some, None, List,
 use Rattle.wac_ast_grammar.proofs.Common.{AllByRecursion, Span, Item, Doc}
 use Rattle.wac_lexer.specs.declared.token.Token.TheVariants as t
 use Rattle.wac_ast_grammar.specs.Tokens.{is_token, valid}
-use Rattle.wac_ast_grammar.specs.Grammar.{Sym, document, directive, statements, statement, import_statement, extern_name, import_type, let_statement, export_statement, export_options, expr, primary_expr, new_expr, arguments, more_arguments, argument, named_argument, argument_name, nested_expr, postfixes, postfix_expr, access_expr, named_access_expr, type_statement, type_decl, item_type_decl, resource_decl, methods, resource_method, constructor, method, variant_decl, cases, more_cases, variant_case, record_decl, fields, more_fields, field, flags_decl, flags, more_flags, flag, enum_decl, enum_cases, more_enum_cases, enum_case, type_alias, type_alias_kind, func_type_ref, func_type, params, more_params, result_list, named_type, ty, tuple_type, list_type, option_type, result_type, borrow_type, stream_type, future_type, types, more_types, result_part, payload, interface_decl, inline_interface, interface_items, interface_item, interface_export, use_statement, use_path, use_items, more_use_items, use_item, world_decl, world_items, world_item, world_import, world_export, world_item_path, named_world_item, extern_type, world_include, world_ref, include_items, more_include_items, include_item, identifier, string, package_name, package_path, rule, build, docs_of, primary_span, postfix_span, last_span, TreeOf, Parts, Grammar, token, sym, then, either, nothing, to_end, docs, not_empty, more, or_told, DerivesIn, DerivesBy, Derives}
+use Rattle.wac_ast_grammar.specs.Grammar.{Sym, document, directive, statements, statement, import_statement, extern_name, import_type, let_statement, export_statement, export_options, expr, primary_expr, new_expr, arguments, argument, named_argument, argument_name, nested_expr, postfixes, postfix_expr, access_expr, named_access_expr, type_statement, type_decl, item_type_decl, resource_decl, methods, resource_method, constructor, method, variant_decl, cases, variant_case, record_decl, fields, field, flags_decl, flags, flag, enum_decl, enum_cases, enum_case, type_alias, type_alias_kind, func_type_ref, func_type, params, result_list, named_type, ty, tuple_type, list_type, option_type, result_type, borrow_type, stream_type, future_type, types, result_part, payload, interface_decl, inline_interface, interface_items, interface_item, interface_export, use_statement, use_path, use_items, use_item, world_decl, world_items, world_item, world_import, world_export, world_item_path, named_world_item, extern_type, world_include, world_ref, include_items, include_item, identifier, string, package_name, package_path, rule, build, docs_of, primary_span, postfix_span, last_span, TreeOf, Parts, Grammar, token, sym, then, either, nothing, to_end, docs, not_empty, more, or_told, DerivesIn, DerivesBy, Derives, CommaList, list_items, more_items}
 use Rattle.wac_ast_grammar.specs.Tree as tree
 use Rattle.wac_ast_grammar.specs.Tree.{Ident, Ty, PrimaryExpr, PostfixExpr, InstantiationArgument, Document, join, types_from, arguments_from}
 use Rattle.wac_ast_grammar.specs.Walk.{walk_extern_name, walk_ty, walk_optional_ty, walk_types, walk_named_type, walk_result_list, walk_func_type, walk_func_type_ref, walk_constructor, walk_method, walk_resource_method, walk_resource_decl, walk_variant_case, walk_variant_decl, walk_field, walk_record_decl, walk_flag, walk_flags_decl, walk_enum_case, walk_enum_decl, walk_type_alias_kind, walk_type_alias, walk_type_decl, walk_item_type_decl, walk_use_path, walk_use_item, walk_use, walk_interface_export, walk_interface_item, walk_interface_decl, walk_inline_interface, walk_extern_type, walk_named_world_item, walk_world_item_path, walk_world_import, walk_world_export, walk_world_ref, walk_world_include_item, walk_world_include, walk_world_item, walk_world_decl, walk_access_expr, walk_named_access_expr, walk_postfix_expr, walk_instantiation_argument_name, walk_expr, walk_primary_expr, walk_arguments, walk_instantiation_argument, walk_named_instantiation_argument, walk_import_type, walk_import_statement, walk_let_statement, walk_export_options, walk_export_statement, walk_type_statement, walk_statement, walk_package_directive, walk_document}
@@ -22,6 +22,18 @@ pub record Made (P : Asked) (D : List Doc → Type 0) : Type 1 where
   pub no_docs : D []
   pub filled : P.filled true
 
+-- the leaves of the items of a list are as asked, and the span of the token that closes it where a tree has it
+abbrev pub ListHolds : Asked → (Span → Type 0) → (List Doc → Type 0) → (l : CommaList) → TreeOf (list_items l) → Type 0
+ListHolds P S D arguments x = AllByRecursion (walk_instantiation_argument (holds_with_spans P S)) x.0 × S x.1.span
+ListHolds P S D cases x = AllByRecursion (walk_variant_case (holds_with_spans P S) D) x.0
+ListHolds P S D fields x = AllByRecursion (walk_field (holds_with_spans P S) D) x.0
+ListHolds P S D flags x = AllByRecursion (walk_flag (holds_with_spans P S) D) x.0
+ListHolds P S D enum_cases x = AllByRecursion (walk_enum_case (holds_with_spans P S) D) x.0
+ListHolds P S D params x = AllByRecursion (walk_named_type (holds_with_spans P S)) x.0
+ListHolds P S D types x = AllByRecursion (walk_ty (holds_with_spans P S)) x.0 × S x.1.span
+ListHolds P S D use_items x = AllByRecursion (walk_use_item (holds_with_spans P S)) x.0
+ListHolds P S D include_items x = AllByRecursion (walk_world_include_item (holds_with_spans P S)) x.0
+
 -- the leaves of the tree of a symbol are as asked
 abbrev pub TreeHolds : Asked → (Span → Type 0) → (List Doc → Type 0) → (s : Sym) → TreeOf s → Type 0
 TreeHolds P S D document x = walk_document (holds_with_spans P S) D x
@@ -37,8 +49,6 @@ TreeHolds P S D export_options x = walk_export_options (holds_with_spans P S) x
 TreeHolds P S D expr x = walk_expr (holds_with_spans P S) x
 TreeHolds P S D primary_expr x = walk_primary_expr (holds_with_spans P S) x
 TreeHolds P S D new_expr x = walk_primary_expr (holds_with_spans P S) x
-TreeHolds P S D arguments x = AllByRecursion (walk_instantiation_argument (holds_with_spans P S)) x.0 × S x.1.span
-TreeHolds P S D more_arguments x = AllByRecursion (walk_instantiation_argument (holds_with_spans P S)) x.0 × S x.1.span
 TreeHolds P S D argument x = walk_instantiation_argument (holds_with_spans P S) x
 TreeHolds P S D named_argument x = walk_named_instantiation_argument (holds_with_spans P S) x
 TreeHolds P S D argument_name x = walk_instantiation_argument_name (holds_with_spans P S) x
@@ -56,27 +66,17 @@ TreeHolds P S D resource_method x = walk_resource_method (holds_with_spans P S) 
 TreeHolds P S D constructor x = walk_constructor (holds_with_spans P S) D x
 TreeHolds P S D method x = walk_method (holds_with_spans P S) D x
 TreeHolds P S D variant_decl x = walk_variant_decl (holds_with_spans P S) D x
-TreeHolds P S D cases x = AllByRecursion (walk_variant_case (holds_with_spans P S) D) x.0
-TreeHolds P S D more_cases x = AllByRecursion (walk_variant_case (holds_with_spans P S) D) x.0
 TreeHolds P S D variant_case x = walk_variant_case (holds_with_spans P S) D x
 TreeHolds P S D record_decl x = walk_record_decl (holds_with_spans P S) D x
-TreeHolds P S D fields x = AllByRecursion (walk_field (holds_with_spans P S) D) x.0
-TreeHolds P S D more_fields x = AllByRecursion (walk_field (holds_with_spans P S) D) x.0
 TreeHolds P S D field x = walk_field (holds_with_spans P S) D x
 TreeHolds P S D flags_decl x = walk_flags_decl (holds_with_spans P S) D x
-TreeHolds P S D flags x = AllByRecursion (walk_flag (holds_with_spans P S) D) x.0
-TreeHolds P S D more_flags x = AllByRecursion (walk_flag (holds_with_spans P S) D) x.0
 TreeHolds P S D flag x = walk_flag (holds_with_spans P S) D x
 TreeHolds P S D enum_decl x = walk_enum_decl (holds_with_spans P S) D x
-TreeHolds P S D enum_cases x = AllByRecursion (walk_enum_case (holds_with_spans P S) D) x.0
-TreeHolds P S D more_enum_cases x = AllByRecursion (walk_enum_case (holds_with_spans P S) D) x.0
 TreeHolds P S D enum_case x = walk_enum_case (holds_with_spans P S) D x
 TreeHolds P S D type_alias x = walk_type_alias (holds_with_spans P S) D x
 TreeHolds P S D type_alias_kind x = walk_type_alias_kind (holds_with_spans P S) x
 TreeHolds P S D func_type_ref x = walk_func_type_ref (holds_with_spans P S) x
 TreeHolds P S D func_type x = walk_func_type (holds_with_spans P S) x
-TreeHolds P S D params x = AllByRecursion (walk_named_type (holds_with_spans P S)) x.0
-TreeHolds P S D more_params x = AllByRecursion (walk_named_type (holds_with_spans P S)) x.0
 TreeHolds P S D result_list x = walk_result_list (holds_with_spans P S) x
 TreeHolds P S D named_type x = walk_named_type (holds_with_spans P S) x
 TreeHolds P S D ty x = walk_ty (holds_with_spans P S) x
@@ -87,8 +87,6 @@ TreeHolds P S D result_type x = walk_ty (holds_with_spans P S) x
 TreeHolds P S D borrow_type x = walk_ty (holds_with_spans P S) x
 TreeHolds P S D stream_type x = walk_ty (holds_with_spans P S) x
 TreeHolds P S D future_type x = walk_ty (holds_with_spans P S) x
-TreeHolds P S D types x = AllByRecursion (walk_ty (holds_with_spans P S)) x.0 × S x.1.span
-TreeHolds P S D more_types x = AllByRecursion (walk_ty (holds_with_spans P S)) x.0 × S x.1.span
 TreeHolds P S D result_part x = walk_optional_ty (holds_with_spans P S) x
 TreeHolds P S D payload x = IfThere (λ (p : Ty × Item). walk_ty (holds_with_spans P S) p.0 × S p.1.span) x
 TreeHolds P S D interface_decl x = walk_interface_decl (holds_with_spans P S) D x
@@ -98,8 +96,6 @@ TreeHolds P S D interface_item x = walk_interface_item (holds_with_spans P S) D 
 TreeHolds P S D interface_export x = walk_interface_export (holds_with_spans P S) D x
 TreeHolds P S D use_statement x = walk_use (holds_with_spans P S) D x
 TreeHolds P S D use_path x = walk_use_path (holds_with_spans P S) x
-TreeHolds P S D use_items x = AllByRecursion (walk_use_item (holds_with_spans P S)) x.0
-TreeHolds P S D more_use_items x = AllByRecursion (walk_use_item (holds_with_spans P S)) x.0
 TreeHolds P S D use_item x = walk_use_item (holds_with_spans P S) x
 TreeHolds P S D world_decl x = walk_world_decl (holds_with_spans P S) D x
 TreeHolds P S D world_items x = AllByRecursion (walk_world_item (holds_with_spans P S) D) x.0
@@ -111,13 +107,13 @@ TreeHolds P S D named_world_item x = walk_named_world_item (holds_with_spans P S
 TreeHolds P S D extern_type x = walk_extern_type (holds_with_spans P S) D x
 TreeHolds P S D world_include x = walk_world_include (holds_with_spans P S) D x
 TreeHolds P S D world_ref x = walk_world_ref (holds_with_spans P S) x
-TreeHolds P S D include_items x = AllByRecursion (walk_world_include_item (holds_with_spans P S)) x.0
-TreeHolds P S D more_include_items x = AllByRecursion (walk_world_include_item (holds_with_spans P S)) x.0
 TreeHolds P S D include_item x = walk_world_include_item (holds_with_spans P S) x
 TreeHolds P S D identifier x = P.ident x
 TreeHolds P S D string x = P.string x
 TreeHolds P S D package_name x = P.name x
 TreeHolds P S D package_path x = P.path x
+TreeHolds P S D (list_items l) x = ListHolds P S D l x
+TreeHolds P S D (more_items l) x = ListHolds P S D l x
 
 -- what of spans is known so
 pub record MadeSpans (P : Asked) (S : Span → Type 0) (D : List Doc → Type 0) (M : Made P D) : Type 1 where
@@ -196,10 +192,6 @@ module _ (P : Asked) (S : Span → Type 0) (D : List Doc → Type 0) (M : Made P
   build_holds primary_expr (inr (inl x)) h = h
   build_holds primary_expr (inr (inr x)) h = h
   build_holds new_expr (first, (name, (_, (xs, last)))) h = ((h.1.0, arguments_hold xs h.1.1.1.0), N.joined first.span last.span (N.item first h.0.0) h.1.1.1.1)
-  build_holds arguments (inl last) h = (tt, N.item last h.0)
-  build_holds arguments (inr (x, others)) h = ((h.0, h.1.0), h.1.1)
-  build_holds more_arguments (inl last) h = (tt, N.item last h.0)
-  build_holds more_arguments (inr (_, others)) h = h.1
   build_holds argument (inl (dots, inl id)) h = h.1
   build_holds argument (inl (dots, inr _)) h = (tt, N.item dots h.0.0)
   build_holds argument (inr (inl (id, inl (_, value)))) h = (h.0, h.1.1)
@@ -239,29 +231,13 @@ module _ (P : Asked) (S : Span → Type 0) (D : List Doc → Type 0) (M : Made P
   build_holds method (ds, (id, (_, (inl _, (func, _))))) h = (h.0, h.1.0, h.1.1.1.1.0)
   build_holds method (ds, (id, (_, (inr _, (func, _))))) h = (h.0, h.1.0, h.1.1.1.1.0)
   build_holds variant_decl (ds, (_, (id, (_, (x, others))))) h = ((h.0, h.1.1.0, (h.1.1.1.1.0, h.1.1.1.1.1)), M.filled)
-  build_holds cases (inl last) h = tt
-  build_holds cases (inr (x, others)) h = (h.0, h.1)
-  build_holds more_cases (inl last) h = tt
-  build_holds more_cases (inr (_, others)) h = h.1
   build_holds variant_case (ds, (id, inl (_, (value, _)))) h = (h.0, h.1.0, h.1.1.1.0)
   build_holds variant_case (ds, (id, inr _)) h = (h.0, h.1.0, tt)
   build_holds record_decl (ds, (_, (id, (_, (x, others))))) h = ((h.0, h.1.1.0, (h.1.1.1.1.0, h.1.1.1.1.1)), M.filled)
-  build_holds fields (inl last) h = tt
-  build_holds fields (inr (x, others)) h = (h.0, h.1)
-  build_holds more_fields (inl last) h = tt
-  build_holds more_fields (inr (_, others)) h = h.1
   build_holds field (ds, x) h = (h.0, h.1.0, h.1.1)
   build_holds flags_decl (ds, (_, (id, (_, (x, others))))) h = ((h.0, h.1.1.0, (h.1.1.1.1.0, h.1.1.1.1.1)), M.filled)
-  build_holds flags (inl last) h = tt
-  build_holds flags (inr (x, others)) h = (h.0, h.1)
-  build_holds more_flags (inl last) h = tt
-  build_holds more_flags (inr (_, others)) h = h.1
   build_holds flag (ds, id) h = (h.0, h.1)
   build_holds enum_decl (ds, (_, (id, (_, (x, others))))) h = ((h.0, h.1.1.0, (h.1.1.1.1.0, h.1.1.1.1.1)), M.filled)
-  build_holds enum_cases (inl last) h = tt
-  build_holds enum_cases (inr (x, others)) h = (h.0, h.1)
-  build_holds more_enum_cases (inl last) h = tt
-  build_holds more_enum_cases (inr (_, others)) h = h.1
   build_holds enum_case (ds, id) h = (h.0, h.1)
   build_holds type_alias (ds, (_, (id, (_, (value, _))))) h = (h.0, h.1.1.0, h.1.1.1.1.0)
   build_holds type_alias_kind (inl x) h = h
@@ -270,10 +246,6 @@ module _ (P : Asked) (S : Span → Type 0) (D : List Doc → Type 0) (M : Made P
   build_holds func_type_ref (inr x) h = h
   build_holds func_type (first, (_, (_, (xs, inl (_, results))))) h = (h.1.1.1.0, h.1.1.1.1.1)
   build_holds func_type (first, (_, (_, (xs, inr _)))) h = (h.1.1.1.0, tt)
-  build_holds params (inl last) h = tt
-  build_holds params (inr (x, others)) h = (h.0, h.1)
-  build_holds more_params (inl last) h = tt
-  build_holds more_params (inr (_, others)) h = h.1
   build_holds result_list (inl (_, (x, others))) h = ((h.1.0, h.1.1), M.filled)
   build_holds result_list (inr (inl x)) h = h
   build_holds result_list (inr (inr _)) h = tt
@@ -311,10 +283,6 @@ module _ (P : Asked) (S : Span → Type 0) (D : List Doc → Type 0) (M : Made P
   build_holds stream_type (first, None) h = (tt, N.item first h.0.0)
   build_holds future_type (first, Some (x, last)) h = (h.1.0, N.joined first.span last.span (N.item first h.0.0) h.1.1)
   build_holds future_type (first, None) h = (tt, N.item first h.0.0)
-  build_holds types (inl last) h = (tt, N.item last h.0)
-  build_holds types (inr (x, others)) h = ((h.0, h.1.0), h.1.1)
-  build_holds more_types (inl last) h = (tt, N.item last h.0)
-  build_holds more_types (inr (_, others)) h = h.1
   build_holds result_part (inl _) h = tt
   build_holds result_part (inr x) h = h
   build_holds payload (inl (_, (x, last))) h = (h.1.0, N.item last h.1.1.0)
@@ -330,10 +298,6 @@ module _ (P : Asked) (S : Span → Type 0) (D : List Doc → Type 0) (M : Made P
   build_holds use_statement (ds, (_, (path, (_, (_, (xs, _)))))) h = (h.0, h.1.1.0, h.1.1.1.1.1.0)
   build_holds use_path (inl x) h = h
   build_holds use_path (inr x) h = h
-  build_holds use_items (inl last) h = tt
-  build_holds use_items (inr (x, others)) h = (h.0, h.1)
-  build_holds more_use_items (inl last) h = tt
-  build_holds more_use_items (inr (_, others)) h = h.1
   build_holds use_item (id, inl (_, name)) h = (h.0, h.1.1)
   build_holds use_item (id, inr _) h = (h.0, tt)
   build_holds world_decl (ds, (_, (id, (_, xs)))) h = (h.0, h.1.1.0, h.1.1.1.1)
@@ -357,15 +321,21 @@ module _ (P : Asked) (S : Span → Type 0) (D : List Doc → Type 0) (M : Made P
   build_holds world_include (ds, (_, (world, (inr _, _)))) h = (h.0, h.1.1.0, tt)
   build_holds world_ref (inl x) h = h
   build_holds world_ref (inr x) h = h
-  build_holds include_items (inl last) h = tt
-  build_holds include_items (inr (x, others)) h = (h.0, h.1)
-  build_holds more_include_items (inl last) h = tt
-  build_holds more_include_items (inr (_, others)) h = h.1
   build_holds include_item (id, (_, name)) h = (h.0, h.1.1)
   build_holds identifier x h = M.ident x h.0 h.1
   build_holds string x h = M.string x h.0 h.1
   build_holds package_name x h = M.name x h.0 h.1 h.2
   build_holds package_path x h = M.path x h.0 h.1 h.2
+  build_holds (list_items arguments) (inl last) h = (tt, N.item last h.0)
+  build_holds (list_items arguments) (inr (x, others)) h = ((h.0, h.1.0), h.1.1)
+  build_holds (list_items types) (inl last) h = (tt, N.item last h.0)
+  build_holds (list_items types) (inr (x, others)) h = ((h.0, h.1.0), h.1.1)
+  build_holds (list_items _) (inl last) h = tt
+  build_holds (list_items _) (inr (x, others)) h = (h.0, h.1)
+  build_holds (more_items arguments) (inl last) h = (tt, N.item last h.0)
+  build_holds (more_items types) (inl last) h = (tt, N.item last h.0)
+  build_holds (more_items _) (inl last) h = tt
+  build_holds (more_items l) (inr (_, others)) h = h.1
 
   abbrev AllKnown : List Item → Type 0
   AllKnown xs = AllByRecursion M.Known xs

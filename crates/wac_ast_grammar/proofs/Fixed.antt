@@ -2,7 +2,7 @@
 use Rattle.std.proofs.Common.{◌≡◌, ℕ, zero, suc, ◌+◌, ◌-◌, ◌*◌, ◌<◌, ◌≤◌, arith, List, [], ◌∷◌, ◌++◌, length, map, Result, Ok, Err, Bool, true, false, cond, ltb, refl, sym as back, ap, subst, ◌∙◌, ◌⊎◌, inl, inr}
 use Rattle.wac_ast_grammar.proofs.Common.{ltb-true, Token, Item}
 use Rattle.wac_ast_grammar.specs.Tokens.{is_token, valid, at}
-use Rattle.wac_ast_grammar.specs.Grammar.{Sym, document, rule, build, TreeOf, Parts, Grammar, token, sym, then, either, nothing, to_end, docs, not_empty, more, or_told, docs_of}
+use Rattle.wac_ast_grammar.specs.Grammar.{Sym, rule, build, TreeOf, Parts, Grammar, token, sym, then, either, nothing, to_end, docs, not_empty, more, or_told, docs_of, list_items, more_items, arguments}
 use Rattle.wac_ast_grammar.specs.Reading.{Tried, can, closes, Stop, refuse, mapped, pair_with, two, read, read_by, read_in, read_token, read_sym, led, built, empty, is_empty, begins, first, at_one_of, may_leave, enough}
 use Rattle.wac_ast_grammar.proofs.Ranks.{rank, measure}
 
@@ -82,7 +82,8 @@ module _ (rec : Reader) (h : AllShrink rec) where
 
 -- the table of the empty ones is right
 pub empty_is : (s : Sym) → is_empty (rule s) ≡ empty s
-empty_is document = refl
+empty_is (list_items arguments) = refl
+empty_is (more_items arguments) = refl
 empty_is _ = refl
 
 pub by_shrinks : (n : ℕ) → AllShrink (read_by n)
@@ -116,11 +117,13 @@ ranked r (more k s g) = ranked r g
 ranked r (or_told g k h) = ranked r g
 
 pub rule_ranked : (s : Sym) → ranked (rank s) (rule s) ≡ true
-rule_ranked document = refl
+rule_ranked (list_items arguments) = refl
+rule_ranked (more_items arguments) = refl
 rule_ranked _ = refl
 
 pub rank_below : (s : Sym) → ltb (rank s) 5 ≡ true
-rank_below document = refl
+rank_below (list_items arguments) = refl
+rank_below (more_items arguments) = refl
 rank_below _ = refl
 
 pub all_ranked : (g : Grammar) → ranked 5 g ≡ true

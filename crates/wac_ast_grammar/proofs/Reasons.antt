@@ -3,7 +3,7 @@ use Rattle.std.proofs.Common.{◌≡◌, ℕ, zero, suc, List, [], ◌∷◌, �
 use Rattle.wac_ast_grammar.proofs.Common.{Token, Item}
 use Rattle.wac_lexer.specs.declared.token.Token.TheVariants as t
 use Rattle.wac_ast_grammar.specs.Tokens.{is_token, valid, at}
-use Rattle.wac_ast_grammar.specs.Grammar.{Sym, document, rule, build, TreeOf, Parts, Grammar, token, sym, then, either, nothing, to_end, docs, not_empty, more, or_told, docs_of}
+use Rattle.wac_ast_grammar.specs.Grammar.{Sym, rule, build, TreeOf, Parts, Grammar, token, sym, then, either, nothing, to_end, docs, not_empty, more, or_told, docs_of, list_items, more_items, arguments}
 use Rattle.wac_ast_grammar.specs.Reading.{Tried, can, closes, Stop, Why, other, version, empty_body, told, refuse, mapped, two, read, read_by, read_in, read_token, read_sym, led, begins, first, at_one_of, may_leave, enough}
 use Rattle.wac_ast_grammar.proofs.Fixed.{Reader, both, both_left, both_right}
 use Rattle.wac_ast_grammar.proofs.Tables.{same_token}
@@ -37,7 +37,8 @@ tells_well (more k s g) = tells_well g
 tells_well (or_told g k h) = both (both (tells_well g) (tells_well h)) (both (same_token t.String k) (only_identifier (first g)))
 
 pub rule_tells : (s : Sym) → tells_well (rule s) ≡ true
-rule_tells document = refl
+rule_tells (list_items arguments) = refl
+rule_tells (more_items arguments) = refl
 rule_tells _ = refl
 
 one_identifier : (ks : List Token) → only_identifier ks ≡ true → map can ks ≡ can t.Ident ∷ []

@@ -4,7 +4,7 @@ use Rattle.wac_ast_grammar.proofs.Common.{span, append-nil, Token, Item}
 use Rattle.wac_ast_grammar.specs.Tokens.{valid}
 use Rattle.wac_ast_grammar.specs.TokenTexts.{text_of}
 use Rattle.wac_lexer.specs.declared.token.Token.TheVariants as t
-use Rattle.wac_ast_grammar.specs.Grammar.{Sym, document, directive, statements, statement, import_statement, extern_name, import_type, let_statement, export_statement, export_options, expr, primary_expr, new_expr, arguments, more_arguments, argument, named_argument, argument_name, nested_expr, postfixes, postfix_expr, access_expr, named_access_expr, type_statement, type_decl, item_type_decl, resource_decl, methods, resource_method, constructor, method, variant_decl, cases, more_cases, variant_case, record_decl, fields, more_fields, field, flags_decl, flags, more_flags, flag, enum_decl, enum_cases, more_enum_cases, enum_case, type_alias, type_alias_kind, func_type_ref, func_type, params, more_params, result_list, named_type, ty, tuple_type, list_type, option_type, result_type, borrow_type, stream_type, future_type, types, more_types, result_part, payload, interface_decl, inline_interface, interface_items, interface_item, interface_export, use_statement, use_path, use_items, more_use_items, use_item, world_decl, world_items, world_item, world_import, world_export, world_item_path, named_world_item, extern_type, world_include, world_ref, include_items, more_include_items, include_item, identifier, string, package_name, package_path, TreeOf, Derives}
+use Rattle.wac_ast_grammar.specs.Grammar.{Sym, document, directive, statements, statement, import_statement, extern_name, import_type, let_statement, export_statement, export_options, expr, primary_expr, new_expr, arguments, argument, named_argument, argument_name, nested_expr, postfixes, postfix_expr, access_expr, named_access_expr, type_statement, type_decl, item_type_decl, resource_decl, methods, resource_method, constructor, method, variant_decl, variant_case, record_decl, field, flags_decl, flag, enum_decl, enum_case, type_alias, type_alias_kind, func_type_ref, func_type, result_list, named_type, ty, tuple_type, list_type, option_type, result_type, borrow_type, stream_type, future_type, result_part, payload, interface_decl, inline_interface, interface_items, interface_item, interface_export, use_statement, use_path, use_item, world_decl, world_items, world_item, world_import, world_export, world_item_path, named_world_item, extern_type, world_include, world_ref, include_item, identifier, string, package_name, package_path, TreeOf, Derives, list_items, more_items, close_of}
 use Rattle.wac_ast_grammar.specs.Reading.{read}
 use Rattle.wac_ast_grammar.specs.Possible.{IsOf}
 use Rattle.wac_ast_grammar.proofs.Sound.{sound}
@@ -40,8 +40,6 @@ sample export_options = sample_of export_options ([]) _ refl
 sample expr = sample_of expr (t.Ident ∷ []) _ refl
 sample primary_expr = sample_of primary_expr (t.Ident ∷ []) _ refl
 sample new_expr = sample_of new_expr (t.NewKeyword ∷ t.PackageName ∷ t.OpenBrace ∷ t.CloseBrace ∷ []) _ refl
-sample arguments = sample_of arguments (t.CloseBrace ∷ []) _ refl
-sample more_arguments = sample_of more_arguments (t.CloseBrace ∷ []) _ refl
 sample argument = sample_of argument (t.Ident ∷ []) _ refl
 sample named_argument = sample_of named_argument (t.Ident ∷ t.Colon ∷ t.Ident ∷ []) _ refl
 sample argument_name = sample_of argument_name (t.Ident ∷ []) _ refl
@@ -59,27 +57,17 @@ sample resource_method = sample_of resource_method (t.ConstructorKeyword ∷ t.O
 sample constructor = sample_of constructor (t.ConstructorKeyword ∷ t.OpenParen ∷ t.CloseParen ∷ t.Semicolon ∷ []) _ refl
 sample method = sample_of method (t.Ident ∷ t.Colon ∷ t.FuncKeyword ∷ t.OpenParen ∷ t.CloseParen ∷ t.Semicolon ∷ []) _ refl
 sample variant_decl = sample_of variant_decl (t.VariantKeyword ∷ t.Ident ∷ t.OpenBrace ∷ t.Ident ∷ t.CloseBrace ∷ []) _ refl
-sample cases = sample_of cases (t.CloseBrace ∷ []) _ refl
-sample more_cases = sample_of more_cases (t.CloseBrace ∷ []) _ refl
 sample variant_case = sample_of variant_case (t.Ident ∷ []) _ refl
 sample record_decl = sample_of record_decl (t.RecordKeyword ∷ t.Ident ∷ t.OpenBrace ∷ t.Ident ∷ t.Colon ∷ t.U8Keyword ∷ t.CloseBrace ∷ []) _ refl
-sample fields = sample_of fields (t.CloseBrace ∷ []) _ refl
-sample more_fields = sample_of more_fields (t.CloseBrace ∷ []) _ refl
 sample field = sample_of field (t.Ident ∷ t.Colon ∷ t.U8Keyword ∷ []) _ refl
 sample flags_decl = sample_of flags_decl (t.FlagsKeyword ∷ t.Ident ∷ t.OpenBrace ∷ t.Ident ∷ t.CloseBrace ∷ []) _ refl
-sample flags = sample_of flags (t.CloseBrace ∷ []) _ refl
-sample more_flags = sample_of more_flags (t.CloseBrace ∷ []) _ refl
 sample flag = sample_of flag (t.Ident ∷ []) _ refl
 sample enum_decl = sample_of enum_decl (t.EnumKeyword ∷ t.Ident ∷ t.OpenBrace ∷ t.Ident ∷ t.CloseBrace ∷ []) _ refl
-sample enum_cases = sample_of enum_cases (t.CloseBrace ∷ []) _ refl
-sample more_enum_cases = sample_of more_enum_cases (t.CloseBrace ∷ []) _ refl
 sample enum_case = sample_of enum_case (t.Ident ∷ []) _ refl
 sample type_alias = sample_of type_alias (t.TypeKeyword ∷ t.Ident ∷ t.Equals ∷ t.U8Keyword ∷ t.Semicolon ∷ []) _ refl
 sample type_alias_kind = sample_of type_alias_kind (t.U8Keyword ∷ []) _ refl
 sample func_type_ref = sample_of func_type_ref (t.Ident ∷ []) _ refl
 sample func_type = sample_of func_type (t.FuncKeyword ∷ t.OpenParen ∷ t.CloseParen ∷ []) _ refl
-sample params = sample_of params (t.CloseParen ∷ []) _ refl
-sample more_params = sample_of more_params (t.CloseParen ∷ []) _ refl
 sample result_list = sample_of result_list ([]) _ refl
 sample named_type = sample_of named_type (t.Ident ∷ t.Colon ∷ t.U8Keyword ∷ []) _ refl
 sample ty = sample_of ty (t.U8Keyword ∷ []) _ refl
@@ -90,8 +78,6 @@ sample result_type = sample_of result_type (t.ResultKeyword ∷ []) _ refl
 sample borrow_type = sample_of borrow_type (t.BorrowKeyword ∷ t.OpenAngle ∷ t.Ident ∷ t.CloseAngle ∷ []) _ refl
 sample stream_type = sample_of stream_type (t.StreamKeyword ∷ []) _ refl
 sample future_type = sample_of future_type (t.FutureKeyword ∷ []) _ refl
-sample types = sample_of types (t.CloseAngle ∷ []) _ refl
-sample more_types = sample_of more_types (t.CloseAngle ∷ []) _ refl
 sample result_part = sample_of result_part (t.Underscore ∷ []) _ refl
 sample payload = sample_of payload ([]) _ refl
 sample interface_decl = sample_of interface_decl (t.InterfaceKeyword ∷ t.Ident ∷ t.OpenBrace ∷ t.CloseBrace ∷ []) _ refl
@@ -101,8 +87,6 @@ sample interface_item = sample_of interface_item (t.ResourceKeyword ∷ t.Ident 
 sample interface_export = sample_of interface_export (t.Ident ∷ t.Colon ∷ t.Ident ∷ t.Semicolon ∷ []) _ refl
 sample use_statement = sample_of use_statement (t.UseKeyword ∷ t.PackagePath ∷ t.Dot ∷ t.OpenBrace ∷ t.CloseBrace ∷ t.Semicolon ∷ []) _ refl
 sample use_path = sample_of use_path (t.PackagePath ∷ []) _ refl
-sample use_items = sample_of use_items (t.CloseBrace ∷ []) _ refl
-sample more_use_items = sample_of more_use_items (t.CloseBrace ∷ []) _ refl
 sample use_item = sample_of use_item (t.Ident ∷ []) _ refl
 sample world_decl = sample_of world_decl (t.WorldKeyword ∷ t.Ident ∷ t.OpenBrace ∷ t.CloseBrace ∷ []) _ refl
 sample world_items = sample_of world_items (t.CloseBrace ∷ []) _ refl
@@ -114,10 +98,12 @@ sample named_world_item = sample_of named_world_item (t.Ident ∷ t.Colon ∷ t.
 sample extern_type = sample_of extern_type (t.Ident ∷ []) _ refl
 sample world_include = sample_of world_include (t.IncludeKeyword ∷ t.PackagePath ∷ t.Semicolon ∷ []) _ refl
 sample world_ref = sample_of world_ref (t.PackagePath ∷ []) _ refl
-sample include_items = sample_of include_items (t.CloseBrace ∷ []) _ refl
-sample more_include_items = sample_of more_include_items (t.CloseBrace ∷ []) _ refl
 sample include_item = sample_of include_item (t.Ident ∷ t.AsKeyword ∷ t.Ident ∷ []) _ refl
 sample identifier = sample_of identifier (t.Ident ∷ []) _ refl
 sample string = sample_of string (t.String ∷ []) _ refl
 sample package_name = sample_of package_name (t.PackageName ∷ []) _ refl
 sample package_path = sample_of package_path (t.PackagePath ∷ []) _ refl
+sample (list_items arguments) = sample_of (list_items arguments) (close_of arguments ∷ []) _ refl
+sample (list_items l) = sample_of (list_items l) (close_of l ∷ []) _ refl
+sample (more_items arguments) = sample_of (more_items arguments) (close_of arguments ∷ []) _ refl
+sample (more_items l) = sample_of (more_items l) (close_of l ∷ []) _ refl

@@ -3,7 +3,7 @@ use Rattle.std.proofs.Common.{◌≡◌, ℕ, zero, suc, List, [], ◌∷◌, �
 use Rattle.wac_ast_grammar.proofs.Common.{append_cancel_right, Token, Error, Item}
 use Rattle.wac_lexer.specs.declared.token.Token.TheVariants as t
 use Rattle.wac_ast_grammar.specs.Tokens.{is_token, valid, at}
-use Rattle.wac_ast_grammar.specs.Grammar.{Sym, document, argument, arguments, rule, build, TreeOf, Parts, Grammar, token, sym, then, either, nothing, to_end, docs, not_empty, more, or_told, docs_of}
+use Rattle.wac_ast_grammar.specs.Grammar.{Sym, argument, arguments, rule, build, TreeOf, Parts, Grammar, token, sym, then, either, nothing, to_end, docs, not_empty, more, or_told, docs_of, list_items, more_items}
 use Rattle.wac_ast_grammar.specs.Reading.{Tried, can, closes, follows, Stop, Why, other, version, empty_body, told, refuse, mapped, pair_with, two, read, read_by, read_in, read_token, read_sym, led, empty, begins, first, at_one_of, may_leave, enough}
 use Rattle.wac_ast_grammar.specs.Arguments.{EndsWithArgument, IsAlone, EndsArgued}
 use Rattle.wac_ast_grammar.proofs.Fixed.{Reader, both, both_left, both_right}
@@ -74,7 +74,7 @@ is_opened st = false
 -- the symbols that are read after an opening brace or a comma alone
 abbrev pub of_arguments : Sym → Bool
 of_arguments argument = true
-of_arguments arguments = true
+of_arguments (list_items arguments) = true
 of_arguments s = false
 
 -- where the symbol may begin
@@ -108,11 +108,13 @@ abbrev pub well_from : State → Sym → Bool
 well_from st s = cond (may_begin st s) (both (well st (rule s)) (is_plain (after st (rule s)))) true
 
 rule_plain : (s : Sym) → well_from plain s ≡ true
-rule_plain document = refl
+rule_plain (list_items arguments) = refl
+rule_plain (more_items arguments) = refl
 rule_plain _ = refl
 
 rule_opened : (s : Sym) → well_from opened s ≡ true
-rule_opened document = refl
+rule_opened (list_items arguments) = refl
+rule_opened (more_items arguments) = refl
 rule_opened _ = refl
 
 if_true : (b c : Bool) → cond b c true ≡ true → b ≡ true → c ≡ true
@@ -277,11 +279,12 @@ by_traces (suc n) s st xs h =
 -- where a symbol may begin: an argument after an opening brace or a comma
 abbrev begun : Sym → State
 begun argument = opened
-begun arguments = opened
+begun (list_items arguments) = opened
 begun _ = plain
 
 begun_well : (s : Sym) → may_begin (begun s) s ≡ true
-begun_well document = refl
+begun_well (list_items arguments) = refl
+begun_well (more_items arguments) = refl
 begun_well _ = refl
 
 traced : (s : Sym) (xs : List Item) → Traced (begun s) plain xs (read s xs)
@@ -376,7 +379,7 @@ alone_ends xs (inr a) = ap (run opened) a.1 ∙ step_token opened t.String a.0 a
 
 ends_exactly : (s : Sym) (xs : List Item) → (run (begun s) xs ≡ argued → EndsArgued s xs) × (EndsArgued s xs → run (begun s) xs ≡ argued)
 ends_exactly argument xs = (ends_alone xs, alone_ends xs)
-ends_exactly arguments xs = (ends_alone xs, alone_ends xs)
+ends_exactly (list_items arguments) xs = (ends_alone xs, alone_ends xs)
 ends_exactly _ xs = (ends_so xs, so_ends plain xs)
 
 argued_is : (st : State) → is_argued st ≡ true → st ≡ argued

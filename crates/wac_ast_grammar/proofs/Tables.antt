@@ -3,7 +3,7 @@ use Rattle.std.proofs.Common.{◌≡◌, List, [], ◌∷◌, ◌++◌, Result, 
 use Rattle.wac_ast_grammar.proofs.Common.{eqb-true, Error, Token, Item}
 use Rattle.wac_lexer.specs.declared.token.Token.TheVariants as t
 use Rattle.wac_ast_grammar.specs.Tokens.{is_token}
-use Rattle.wac_ast_grammar.specs.Grammar.{Sym, document, statements, import_type, export_options, expr, argument, named_argument, postfixes, variant_case, field, type_alias_kind, func_type_ref, func_type, result_list, named_type, ty, result_type, stream_type, future_type, result_part, payload, use_item, world_item_path, named_world_item, extern_type, rule, Behind, anything, no_fault, one_among, Grammar, token, sym, then, either, nothing, to_end, docs, not_empty, more, or_told}
+use Rattle.wac_ast_grammar.specs.Grammar.{Sym, document, statements, import_type, export_options, expr, argument, named_argument, postfixes, variant_case, field, type_alias_kind, func_type_ref, func_type, result_list, named_type, ty, result_type, stream_type, future_type, result_part, payload, use_item, world_item_path, named_world_item, extern_type, rule, Behind, anything, no_fault, one_among, Grammar, token, sym, then, either, nothing, to_end, docs, not_empty, more, or_told, list_items, more_items, arguments}
 use Rattle.wac_ast_grammar.specs.Reading.{empty, is_empty, begins, first, at_one_of}
 use Rattle.wac_ast_grammar.proofs.Fixed.{both, both_left, both_right}
 
@@ -210,19 +210,23 @@ lawful (more k s g) = both (both (lawful g) (negated (is_empty g))) (both (among
 lawful (or_told g k h) = both (both (lawful g) (lawful h)) (both (negated (is_empty g)) (both (apart (k ∷ []) (first g)) (negated (is_empty h))))
 
 pub rule_lawful : (s : Sym) → lawful (rule s) ≡ true
-rule_lawful document = refl
+rule_lawful (list_items arguments) = refl
+rule_lawful (more_items arguments) = refl
 rule_lawful _ = refl
 
 pub begins_is : (s : Sym) → first (rule s) ≡ begins s
-begins_is document = refl
+begins_is (list_items arguments) = refl
+begins_is (more_items arguments) = refl
 begins_is _ = refl
 
 pub clashes_is : (s : Sym) → within (clash (rule s)) (clashes s) ≡ true
-clashes_is document = refl
+clashes_is (list_items arguments) = refl
+clashes_is (more_items arguments) = refl
 clashes_is _ = refl
 
 pub needs_is : (s : Sym) → needs (rule s) ≡ needs_more s
-needs_is document = refl
+needs_is (list_items arguments) = refl
+needs_is (more_items arguments) = refl
 needs_is _ = refl
 
 -- each token is among all

@@ -4,7 +4,7 @@ use Rattle.wac_lexer.specs.declared.token.Token.{Token}
 use Rattle.wac_lexer.specs.declared.token.Token.TheVariants as t
 use Rattle.wac_lexer.specs.Item.{Item}
 use Rattle.wac_ast_grammar.specs.Tokens.{is_token}
-use Rattle.wac_ast_grammar.specs.Grammar.{Sym, argument, arguments}
+use Rattle.wac_ast_grammar.specs.Grammar.{Sym, argument, arguments, list_items}
 use Rattle.wac_ast_grammar.specs.Reading.{Stop, can, other}
 
 -- The items end with a string after an opening brace or a comma. (A name follows `as`, and a named access a bracket.)
@@ -23,7 +23,7 @@ IsAlone k items = (x : Item) × (items ≡ x ∷ []) × (is_token k x.token ≡ 
 -- The items of a part end with a string that an argument begins with. The items of an argument may be that string alone.
 abbrev pub EndsArgued : Sym → List Item → Type 0
 EndsArgued argument items = EndsWithArgument items ⊎ IsAlone t.String items
-EndsArgued arguments items = EndsWithArgument items ⊎ IsAlone t.String items
+EndsArgued (list_items arguments) items = EndsWithArgument items ⊎ IsAlone t.String items
 EndsArgued _ items = EndsWithArgument items
 
 -- The input ends after the dots of an argument: they are one where a comma or a closing

@@ -9,6 +9,18 @@ use Rattle.wac_ast_grammar.specs.Version.{unversioned, path_name, path_segments,
 use Rattle.wac_ast_grammar.specs.Tokens.{is_token, valid}
 use Rattle.wac_ast_grammar.specs.Tree.{join, without_percent, between_quotes, types_from, arguments_from, AccessExpr, Constructor, Document, EnumCase, EnumDecl, ExportOptions, ExportStatement, Expr, ExternName, ExternType, Field, Flag, FlagsDecl, FuncType, FuncTypeRef, Ident, ImportStatement, ImportType, InlineInterface, InstantiationArgument, InstantiationArgumentName, InterfaceDecl, InterfaceExport, InterfaceItem, ItemTypeDecl, LetStatement, Method, NamedAccessExpr, NamedInstantiationArgument, NamedType, NamedWorldItem, OptionalTy, PackageDirective, PackageName, PackagePath, PostfixExpr, PrimaryExpr, RecordDecl, ResourceDecl, ResourceMethod, ResultList, Statement, String, Ty, TypeAlias, TypeAliasKind, TypeDecl, TypeStatement, Use, UseItem, UsePath, VariantCase, VariantDecl, WorldDecl, WorldExport, WorldImport, WorldInclude, WorldIncludeItem, WorldItem, WorldItemPath, WorldRef, Types}
 
+-- The lists whose items stand between commas.
+pub data CommaList : Type 0 where
+  arguments : CommaList
+  cases : CommaList
+  fields : CommaList
+  flags : CommaList
+  enum_cases : CommaList
+  params : CommaList
+  types : CommaList
+  use_items : CommaList
+  include_items : CommaList
+
 pub data Sym : Type 0 where
   document : Sym
   directive : Sym
@@ -23,8 +35,6 @@ pub data Sym : Type 0 where
   expr : Sym
   primary_expr : Sym
   new_expr : Sym
-  arguments : Sym
-  more_arguments : Sym
   argument : Sym
   named_argument : Sym
   argument_name : Sym
@@ -42,27 +52,17 @@ pub data Sym : Type 0 where
   constructor : Sym
   method : Sym
   variant_decl : Sym
-  cases : Sym
-  more_cases : Sym
   variant_case : Sym
   record_decl : Sym
-  fields : Sym
-  more_fields : Sym
   field : Sym
   flags_decl : Sym
-  flags : Sym
-  more_flags : Sym
   flag : Sym
   enum_decl : Sym
-  enum_cases : Sym
-  more_enum_cases : Sym
   enum_case : Sym
   type_alias : Sym
   type_alias_kind : Sym
   func_type_ref : Sym
   func_type : Sym
-  params : Sym
-  more_params : Sym
   result_list : Sym
   named_type : Sym
   ty : Sym
@@ -73,8 +73,6 @@ pub data Sym : Type 0 where
   borrow_type : Sym
   stream_type : Sym
   future_type : Sym
-  types : Sym
-  more_types : Sym
   result_part : Sym
   payload : Sym
   interface_decl : Sym
@@ -84,8 +82,6 @@ pub data Sym : Type 0 where
   interface_export : Sym
   use_statement : Sym
   use_path : Sym
-  use_items : Sym
-  more_use_items : Sym
   use_item : Sym
   world_decl : Sym
   world_items : Sym
@@ -97,13 +93,31 @@ pub data Sym : Type 0 where
   extern_type : Sym
   world_include : Sym
   world_ref : Sym
-  include_items : Sym
-  more_include_items : Sym
   include_item : Sym
   identifier : Sym
   string : Sym
   package_name : Sym
   package_path : Sym
+  -- a list from the place of an item on, and from behind an item on, with the token that closes it
+  list_items : CommaList → Sym
+  more_items : CommaList → Sym
+
+-- what stands between the commas
+abbrev pub item_of : CommaList → Sym
+item_of arguments = argument
+item_of cases = variant_case
+item_of fields = field
+item_of flags = flag
+item_of enum_cases = enum_case
+item_of params = named_type
+item_of types = ty
+item_of use_items = use_item
+item_of include_items = include_item
+
+abbrev pub close_of : CommaList → Token
+close_of params = t.CloseParen
+close_of types = t.CloseAngle
+close_of _ = t.CloseBrace
 
 -- The declarations whose braces may not be empty.
 pub data Body : Type 0 where
@@ -152,10 +166,6 @@ optional g = either true g (nothing no_fault)
 abbrev pub perhaps : Grammar → Grammar
 perhaps g = either true g (nothing anything)
 
--- what follows an item of a comma list, up to the closing token
-abbrev pub rest_of : Token → Sym → Sym → Grammar
-rest_of close item items = more close item (either false (token close) (token t.Comma ▸ sym items))
-
 -- THE GRAMMAR
 abbrev pub rule : Sym → Grammar
 rule document = docs (sym directive ▸ sym statements)
@@ -170,9 +180,7 @@ rule export_statement = docs (token t.ExportKeyword ▸ sym expr ▸ sym export_
 rule export_options = token t.Ellipsis ¦ perhaps (token t.AsKeyword ▸ sym extern_name)
 rule expr = sym primary_expr ▸ sym postfixes
 rule primary_expr = sym new_expr ¦ sym nested_expr ¦ sym identifier
-rule new_expr = token t.NewKeyword ▸ sym package_name ▸ token t.OpenBrace ▸ sym arguments
-rule arguments = token t.CloseBrace ¦ sym argument ▸ sym more_arguments
-rule more_arguments = rest_of t.CloseBrace argument arguments
+rule new_expr = token t.NewKeyword ▸ sym package_name ▸ token t.OpenBrace ▸ sym (list_items arguments)
 rule argument = token t.Ellipsis ▸ (sym identifier ¦ nothing (one_among (t.Comma ∷ t.CloseBrace ∷ []))) ¦ or_told (sym identifier ▸ perhaps (token t.Colon ▸ sym expr)) t.String (token t.Colon ▸ sym expr)
 rule named_argument = sym argument_name ▸ token t.Colon ▸ sym expr
 rule argument_name = sym identifier ¦ sym string
@@ -187,42 +195,30 @@ rule item_type_decl = sym resource_decl ¦ sym variant_decl ¦ sym record_decl �
 rule resource_decl = docs (token t.ResourceKeyword ▸ sym identifier ▸ (token t.Semicolon ¦ token t.OpenBrace ▸ sym methods))
 rule methods = token t.CloseBrace ¦ sym resource_method ▸ sym methods
 rule resource_method = sym constructor ¦ sym method
-rule constructor = docs (token t.ConstructorKeyword ▸ token t.OpenParen ▸ sym params ▸ token t.Semicolon)
+rule constructor = docs (token t.ConstructorKeyword ▸ token t.OpenParen ▸ sym (list_items params) ▸ token t.Semicolon)
 rule method = docs (sym identifier ▸ token t.Colon ▸ perhaps (token t.StaticKeyword) ▸ sym func_type ▸ token t.Semicolon)
-rule variant_decl = docs (token t.VariantKeyword ▸ sym identifier ▸ token t.OpenBrace ▸ not_empty variant_body t.CloseBrace (sym variant_case ▸ sym more_cases))
-rule cases = token t.CloseBrace ¦ sym variant_case ▸ sym more_cases
-rule more_cases = rest_of t.CloseBrace variant_case cases
+rule variant_decl = docs (token t.VariantKeyword ▸ sym identifier ▸ token t.OpenBrace ▸ not_empty variant_body t.CloseBrace (sym variant_case ▸ sym (more_items cases)))
 rule variant_case = docs (sym identifier ▸ optional (token t.OpenParen ▸ sym ty ▸ token t.CloseParen))
-rule record_decl = docs (token t.RecordKeyword ▸ sym identifier ▸ token t.OpenBrace ▸ not_empty record_body t.CloseBrace (sym field ▸ sym more_fields))
-rule fields = token t.CloseBrace ¦ sym field ▸ sym more_fields
-rule more_fields = rest_of t.CloseBrace field fields
+rule record_decl = docs (token t.RecordKeyword ▸ sym identifier ▸ token t.OpenBrace ▸ not_empty record_body t.CloseBrace (sym field ▸ sym (more_items fields)))
 rule field = docs (sym named_type)
-rule flags_decl = docs (token t.FlagsKeyword ▸ sym identifier ▸ token t.OpenBrace ▸ not_empty flags_body t.CloseBrace (sym flag ▸ sym more_flags))
-rule flags = token t.CloseBrace ¦ sym flag ▸ sym more_flags
-rule more_flags = rest_of t.CloseBrace flag flags
+rule flags_decl = docs (token t.FlagsKeyword ▸ sym identifier ▸ token t.OpenBrace ▸ not_empty flags_body t.CloseBrace (sym flag ▸ sym (more_items flags)))
 rule flag = docs (sym identifier)
-rule enum_decl = docs (token t.EnumKeyword ▸ sym identifier ▸ token t.OpenBrace ▸ not_empty enum_body t.CloseBrace (sym enum_case ▸ sym more_enum_cases))
-rule enum_cases = token t.CloseBrace ¦ sym enum_case ▸ sym more_enum_cases
-rule more_enum_cases = rest_of t.CloseBrace enum_case enum_cases
+rule enum_decl = docs (token t.EnumKeyword ▸ sym identifier ▸ token t.OpenBrace ▸ not_empty enum_body t.CloseBrace (sym enum_case ▸ sym (more_items enum_cases)))
 rule enum_case = docs (sym identifier)
 rule type_alias = docs (token t.TypeKeyword ▸ sym identifier ▸ token t.Equals ▸ sym type_alias_kind ▸ token t.Semicolon)
 rule type_alias_kind = sym func_type ¦ sym ty
 rule func_type_ref = sym func_type ¦ sym identifier
-rule func_type = optional (token t.AsyncKeyword) ▸ token t.FuncKeyword ▸ token t.OpenParen ▸ sym params ▸ optional (token t.Arrow ▸ sym result_list)
-rule params = token t.CloseParen ¦ sym named_type ▸ sym more_params
-rule more_params = rest_of t.CloseParen named_type params
-rule result_list = token t.OpenParen ▸ sym named_type ▸ sym more_params ¦ perhaps (sym ty)
+rule func_type = optional (token t.AsyncKeyword) ▸ token t.FuncKeyword ▸ token t.OpenParen ▸ sym (list_items params) ▸ optional (token t.Arrow ▸ sym result_list)
+rule result_list = token t.OpenParen ▸ sym named_type ▸ sym (more_items params) ¦ perhaps (sym ty)
 rule named_type = sym identifier ▸ token t.Colon ▸ sym ty
 rule ty = token t.U8Keyword ¦ token t.S8Keyword ¦ token t.U16Keyword ¦ token t.S16Keyword ¦ token t.U32Keyword ¦ token t.S32Keyword ¦ token t.U64Keyword ¦ token t.S64Keyword ¦ token t.F32Keyword ¦ token t.F64Keyword ¦ token t.CharKeyword ¦ token t.BoolKeyword ¦ token t.StringKeyword ¦ sym tuple_type ¦ sym list_type ¦ sym option_type ¦ sym result_type ¦ sym borrow_type ¦ sym stream_type ¦ sym future_type ¦ token t.ErrorContextKeyword ¦ sym identifier
-rule tuple_type = token t.TupleKeyword ▸ token t.OpenAngle ▸ sym ty ▸ sym more_types
+rule tuple_type = token t.TupleKeyword ▸ token t.OpenAngle ▸ sym ty ▸ sym (more_items types)
 rule list_type = token t.ListKeyword ▸ token t.OpenAngle ▸ sym ty ▸ token t.CloseAngle
 rule option_type = token t.OptionKeyword ▸ token t.OpenAngle ▸ sym ty ▸ token t.CloseAngle
 rule result_type = token t.ResultKeyword ▸ optional (token t.OpenAngle ▸ sym result_part ▸ optional (token t.Comma ▸ sym result_part) ▸ token t.CloseAngle)
 rule borrow_type = token t.BorrowKeyword ▸ token t.OpenAngle ▸ sym identifier ▸ token t.CloseAngle
 rule stream_type = token t.StreamKeyword ▸ sym payload
 rule future_type = token t.FutureKeyword ▸ sym payload
-rule types = token t.CloseAngle ¦ sym ty ▸ sym more_types
-rule more_types = rest_of t.CloseAngle ty types
 rule result_part = token t.Underscore ¦ sym ty
 rule payload = optional (token t.OpenAngle ▸ sym ty ▸ token t.CloseAngle)
 rule interface_decl = docs (token t.InterfaceKeyword ▸ sym identifier ▸ token t.OpenBrace ▸ sym interface_items)
@@ -230,10 +226,8 @@ rule inline_interface = token t.InterfaceKeyword ▸ token t.OpenBrace ▸ sym i
 rule interface_items = token t.CloseBrace ¦ sym interface_item ▸ sym interface_items
 rule interface_item = sym use_statement ¦ sym interface_export ¦ sym item_type_decl
 rule interface_export = docs (sym identifier ▸ token t.Colon ▸ sym func_type_ref ▸ token t.Semicolon)
-rule use_statement = docs (token t.UseKeyword ▸ sym use_path ▸ token t.Dot ▸ token t.OpenBrace ▸ sym use_items ▸ token t.Semicolon)
+rule use_statement = docs (token t.UseKeyword ▸ sym use_path ▸ token t.Dot ▸ token t.OpenBrace ▸ sym (list_items use_items) ▸ token t.Semicolon)
 rule use_path = sym package_path ¦ sym identifier
-rule use_items = token t.CloseBrace ¦ sym use_item ▸ sym more_use_items
-rule more_use_items = rest_of t.CloseBrace use_item use_items
 rule use_item = sym identifier ▸ optional (token t.AsKeyword ▸ sym identifier)
 rule world_decl = docs (token t.WorldKeyword ▸ sym identifier ▸ token t.OpenBrace ▸ sym world_items)
 rule world_items = token t.CloseBrace ¦ sym world_item ▸ sym world_items
@@ -243,116 +237,105 @@ rule world_export = docs (token t.ExportKeyword ▸ sym world_item_path ▸ toke
 rule world_item_path = sym package_path ¦ sym identifier ▸ perhaps (token t.Colon ▸ sym extern_type)
 rule named_world_item = sym identifier ▸ token t.Colon ▸ sym extern_type
 rule extern_type = sym identifier ¦ sym func_type ¦ sym inline_interface
-rule world_include = docs (token t.IncludeKeyword ▸ sym world_ref ▸ optional (token t.WithKeyword ▸ token t.OpenBrace ▸ sym include_items) ▸ token t.Semicolon)
+rule world_include = docs (token t.IncludeKeyword ▸ sym world_ref ▸ optional (token t.WithKeyword ▸ token t.OpenBrace ▸ sym (list_items include_items)) ▸ token t.Semicolon)
 rule world_ref = sym package_path ¦ sym identifier
-rule include_items = token t.CloseBrace ¦ sym include_item ▸ sym more_include_items
-rule more_include_items = rest_of t.CloseBrace include_item include_items
 rule include_item = sym identifier ▸ token t.AsKeyword ▸ sym identifier
 rule identifier = token t.Ident
 rule string = token t.String
 rule package_name = token t.PackageName
 rule package_path = token t.PackagePath
+rule (list_items l) = token (close_of l) ¦ sym (item_of l) ▸ sym (more_items l)
+rule (more_items l) = more (close_of l) (item_of l) (either false (token (close_of l)) (token t.Comma ▸ sym (list_items l)))
 
 -- a list's items, and the token that closes it
 abbrev pub Listed : Type 0 → Type 0
 Listed A = List A × Item
 
+-- what the tree of each symbol is that is no list between commas
+abbrev pub OwnTree : Sym → Type 0
+OwnTree document = Document
+OwnTree directive = PackageDirective
+OwnTree statements = List Statement
+OwnTree statement = Statement
+OwnTree import_statement = ImportStatement
+OwnTree extern_name = ExternName
+OwnTree import_type = ImportType
+OwnTree let_statement = LetStatement
+OwnTree export_statement = ExportStatement
+OwnTree export_options = ExportOptions
+OwnTree expr = Expr
+OwnTree primary_expr = PrimaryExpr
+OwnTree new_expr = PrimaryExpr
+OwnTree argument = InstantiationArgument
+OwnTree named_argument = NamedInstantiationArgument
+OwnTree argument_name = InstantiationArgumentName
+OwnTree nested_expr = PrimaryExpr
+OwnTree postfixes = List PostfixExpr
+OwnTree postfix_expr = PostfixExpr
+OwnTree access_expr = AccessExpr
+OwnTree named_access_expr = NamedAccessExpr
+OwnTree type_statement = TypeStatement
+OwnTree type_decl = TypeDecl
+OwnTree item_type_decl = ItemTypeDecl
+OwnTree resource_decl = ResourceDecl
+OwnTree methods = Listed ResourceMethod
+OwnTree resource_method = ResourceMethod
+OwnTree constructor = Constructor
+OwnTree method = Method
+OwnTree variant_decl = VariantDecl
+OwnTree variant_case = VariantCase
+OwnTree record_decl = RecordDecl
+OwnTree field = Field
+OwnTree flags_decl = FlagsDecl
+OwnTree flag = Flag
+OwnTree enum_decl = EnumDecl
+OwnTree enum_case = EnumCase
+OwnTree type_alias = TypeAlias
+OwnTree type_alias_kind = TypeAliasKind
+OwnTree func_type_ref = FuncTypeRef
+OwnTree func_type = FuncType
+OwnTree result_list = ResultList
+OwnTree named_type = NamedType
+OwnTree ty = Ty
+OwnTree tuple_type = Ty
+OwnTree list_type = Ty
+OwnTree option_type = Ty
+OwnTree result_type = Ty
+OwnTree borrow_type = Ty
+OwnTree stream_type = Ty
+OwnTree future_type = Ty
+OwnTree result_part = OptionalTy
+OwnTree payload = Option (Ty × Item)
+OwnTree interface_decl = InterfaceDecl
+OwnTree inline_interface = InlineInterface
+OwnTree interface_items = Listed InterfaceItem
+OwnTree interface_item = InterfaceItem
+OwnTree interface_export = InterfaceExport
+OwnTree use_statement = Use
+OwnTree use_path = UsePath
+OwnTree use_item = UseItem
+OwnTree world_decl = WorldDecl
+OwnTree world_items = Listed WorldItem
+OwnTree world_item = WorldItem
+OwnTree world_import = WorldImport
+OwnTree world_export = WorldExport
+OwnTree world_item_path = WorldItemPath
+OwnTree named_world_item = NamedWorldItem
+OwnTree extern_type = ExternType
+OwnTree world_include = WorldInclude
+OwnTree world_ref = WorldRef
+OwnTree include_item = WorldIncludeItem
+OwnTree identifier = Ident
+OwnTree string = String
+OwnTree package_name = PackageName
+OwnTree package_path = PackagePath
+OwnTree _ = Unit {0}
+
 -- what each symbol's tree is
 abbrev pub TreeOf : Sym → Type 0
-TreeOf document = Document
-TreeOf directive = PackageDirective
-TreeOf statements = List Statement
-TreeOf statement = Statement
-TreeOf import_statement = ImportStatement
-TreeOf extern_name = ExternName
-TreeOf import_type = ImportType
-TreeOf let_statement = LetStatement
-TreeOf export_statement = ExportStatement
-TreeOf export_options = ExportOptions
-TreeOf expr = Expr
-TreeOf primary_expr = PrimaryExpr
-TreeOf new_expr = PrimaryExpr
-TreeOf arguments = Listed InstantiationArgument
-TreeOf more_arguments = Listed InstantiationArgument
-TreeOf argument = InstantiationArgument
-TreeOf named_argument = NamedInstantiationArgument
-TreeOf argument_name = InstantiationArgumentName
-TreeOf nested_expr = PrimaryExpr
-TreeOf postfixes = List PostfixExpr
-TreeOf postfix_expr = PostfixExpr
-TreeOf access_expr = AccessExpr
-TreeOf named_access_expr = NamedAccessExpr
-TreeOf type_statement = TypeStatement
-TreeOf type_decl = TypeDecl
-TreeOf item_type_decl = ItemTypeDecl
-TreeOf resource_decl = ResourceDecl
-TreeOf methods = Listed ResourceMethod
-TreeOf resource_method = ResourceMethod
-TreeOf constructor = Constructor
-TreeOf method = Method
-TreeOf variant_decl = VariantDecl
-TreeOf cases = Listed VariantCase
-TreeOf more_cases = Listed VariantCase
-TreeOf variant_case = VariantCase
-TreeOf record_decl = RecordDecl
-TreeOf fields = Listed Field
-TreeOf more_fields = Listed Field
-TreeOf field = Field
-TreeOf flags_decl = FlagsDecl
-TreeOf flags = Listed Flag
-TreeOf more_flags = Listed Flag
-TreeOf flag = Flag
-TreeOf enum_decl = EnumDecl
-TreeOf enum_cases = Listed EnumCase
-TreeOf more_enum_cases = Listed EnumCase
-TreeOf enum_case = EnumCase
-TreeOf type_alias = TypeAlias
-TreeOf type_alias_kind = TypeAliasKind
-TreeOf func_type_ref = FuncTypeRef
-TreeOf func_type = FuncType
-TreeOf params = Listed NamedType
-TreeOf more_params = Listed NamedType
-TreeOf result_list = ResultList
-TreeOf named_type = NamedType
-TreeOf ty = Ty
-TreeOf tuple_type = Ty
-TreeOf list_type = Ty
-TreeOf option_type = Ty
-TreeOf result_type = Ty
-TreeOf borrow_type = Ty
-TreeOf stream_type = Ty
-TreeOf future_type = Ty
-TreeOf types = Listed Ty
-TreeOf more_types = Listed Ty
-TreeOf result_part = OptionalTy
-TreeOf payload = Option (Ty × Item)
-TreeOf interface_decl = InterfaceDecl
-TreeOf inline_interface = InlineInterface
-TreeOf interface_items = Listed InterfaceItem
-TreeOf interface_item = InterfaceItem
-TreeOf interface_export = InterfaceExport
-TreeOf use_statement = Use
-TreeOf use_path = UsePath
-TreeOf use_items = Listed UseItem
-TreeOf more_use_items = Listed UseItem
-TreeOf use_item = UseItem
-TreeOf world_decl = WorldDecl
-TreeOf world_items = Listed WorldItem
-TreeOf world_item = WorldItem
-TreeOf world_import = WorldImport
-TreeOf world_export = WorldExport
-TreeOf world_item_path = WorldItemPath
-TreeOf named_world_item = NamedWorldItem
-TreeOf extern_type = ExternType
-TreeOf world_include = WorldInclude
-TreeOf world_ref = WorldRef
-TreeOf include_items = Listed WorldIncludeItem
-TreeOf more_include_items = Listed WorldIncludeItem
-TreeOf include_item = WorldIncludeItem
-TreeOf identifier = Ident
-TreeOf string = String
-TreeOf package_name = PackageName
-TreeOf package_path = PackagePath
+TreeOf (list_items l) = Listed (OwnTree (item_of l))
+TreeOf (more_items l) = Listed (OwnTree (item_of l))
+TreeOf s = OwnTree s
 
 -- the parts that a grammar has
 abbrev pub Parts : Grammar → Type 0
@@ -438,8 +421,6 @@ build export_options (inr (inr _)) = ExportOptions.none
 build expr (first, others) = Expr.expr (join (primary_span first) (last_span (primary_span first) others)) first others
 build primary_expr p = (itself or itself or PrimaryExpr.ident) p
 build new_expr (first, (name, (_, (xs, last)))) = PrimaryExpr.new (join first.span last.span) name (arguments_from xs)
-build arguments p = listed p
-build more_arguments p = listed_more p
 build argument (inl (dots, inl id)) = InstantiationArgument.spread id
 build argument (inl (dots, inr _)) = InstantiationArgument.fill dots.span
 build argument (inr (inl (id, inl (_, value)))) = InstantiationArgument.named (InstantiationArgumentName.ident id) value
@@ -466,28 +447,18 @@ build constructor (ds, (first, (_, (xs, _)))) = record { docs = ds; span = first
 build method (ds, (id, (_, (inl _, (func, _))))) = record { docs = ds; id = id; is_static = true; ty = func }
 build method (ds, (id, (_, (inr _, (func, _))))) = record { docs = ds; id = id; is_static = false; ty = func }
 build variant_decl (ds, (_, (id, (_, (x, others))))) = record { docs = ds; id = id; cases = x ∷ others.0 }
-build cases p = listed p
-build more_cases p = listed_more p
 build variant_case (ds, (id, inl (_, (value, _)))) = record { docs = ds; id = id; ty = Some value }
 build variant_case (ds, (id, inr _)) = record { docs = ds; id = id; ty = None }
 build record_decl (ds, (_, (id, (_, (x, others))))) = record { docs = ds; id = id; fields = x ∷ others.0 }
-build fields p = listed p
-build more_fields p = listed_more p
 build field (ds, x) = record { docs = ds; id = x.id; ty = x.ty }
 build flags_decl (ds, (_, (id, (_, (x, others))))) = record { docs = ds; id = id; flags = x ∷ others.0 }
-build flags p = listed p
-build more_flags p = listed_more p
 build flag (ds, id) = record { docs = ds; id = id }
 build enum_decl (ds, (_, (id, (_, (x, others))))) = record { docs = ds; id = id; cases = x ∷ others.0 }
-build enum_cases p = listed p
-build more_enum_cases p = listed_more p
 build enum_case (ds, id) = record { docs = ds; id = id }
 build type_alias (ds, (_, (id, (_, (value, _))))) = record { docs = ds; id = id; kind = value }
 build type_alias_kind p = (TypeAliasKind.func or TypeAliasKind.ty) p
 build func_type_ref p = (FuncTypeRef.func or FuncTypeRef.ident) p
 build func_type (first, (_, (_, (xs, results)))) = record { is_async = is_there first; params = xs.0; results = results_of results }
-build params p = listed p
-build more_params p = listed_more p
 build result_list (inl (_, (x, others))) = ResultList.named (x ∷ others.0)
 build result_list (inr (inl x)) = ResultList.scalar x
 build result_list (inr (inr _)) = ResultList.empty
@@ -508,8 +479,6 @@ build stream_type (first, Some (x, last)) = Ty.stream (OptionalTy.present x) (jo
 build stream_type (first, None) = Ty.stream OptionalTy.absent first.span
 build future_type (first, Some (x, last)) = Ty.future (OptionalTy.present x) (join first.span last.span)
 build future_type (first, None) = Ty.future OptionalTy.absent first.span
-build types p = listed p
-build more_types p = listed_more p
 build result_part (inl _) = OptionalTy.absent
 build result_part (inr x) = OptionalTy.present x
 build payload (inl (_, (x, last))) = Some (x, last)
@@ -521,8 +490,6 @@ build interface_item p = (InterfaceItem.use_statement or InterfaceItem.interface
 build interface_export (ds, (id, (_, (value, _)))) = record { docs = ds; id = id; ty = value }
 build use_statement (ds, (_, (path, (_, (_, (xs, _)))))) = record { docs = ds; path = path; items = xs.0 }
 build use_path p = (UsePath.path or UsePath.ident) p
-build use_items p = listed p
-build more_use_items p = listed_more p
 build use_item (id, inl (_, name)) = record { id = id; as_id = Some name }
 build use_item (id, inr _) = record { id = id; as_id = None }
 build world_decl (ds, (_, (id, (_, xs)))) = record { docs = ds; id = id; items = xs.0 }
@@ -540,13 +507,15 @@ build extern_type p = (ExternType.ident or ExternType.func or ExternType.interfa
 build world_include (ds, (_, (world, (inl (_, (_, xs)), _)))) = record { docs = ds; world = world; items = xs.0 }
 build world_include (ds, (_, (world, (inr _, _)))) = record { docs = ds; world = world; items = [] }
 build world_ref p = (WorldRef.path or WorldRef.ident) p
-build include_items p = listed p
-build more_include_items p = listed_more p
 build include_item (id, (_, name)) = record { from = id; to = name }
 build identifier x = record { string = without_percent x.text; span = x.span }
 build string x = string_of x
 build package_name x = record { string = x.text; name = unversioned x.text; version = version_of x.text; span = x.span }
 build package_path x = record { span = x.span; string = x.text; name = path_name x.text; segments = path_segments x.text; version = version_of x.text }
+-- (each list by itself, as its items' trees are known then)
+build (list_items arguments) p = listed p
+build (list_items _) p = listed p
+build (more_items l) p = listed_more p
 
 abbrev pub docs_of : List Item → List Doc
 docs_of [] = []

@@ -23,20 +23,20 @@ name_begins [] h = absurd cc
 name_begins (i ∷ xs) h = rw (token_at k.Ident i xs h) (refl, refl)
 
 -- no name is next
-pub no_name : {e : Error} {l : Reading} → Fails e (end_of_input l) (read_token [] k.Ident (left l)) → Stops e (then (sym g.named_type) (sym g.more_params)) [] l
+pub no_name : {e : Error} {l : Reading} → Fails e (end_of_input l) (read_token [] k.Ident (left l)) → Stops e (then (sym g.named_type) (sym (g.more_items g.params))) [] l
 no_name {l = l} f = x.here (x.leaves g.named_type l (x.here (x.leaves g.identifier l (x.last f))))
 
 -- the list fails, after the test
-pub names_fail : {e : Error} {l : Reading} (m : Reading) → m ≡ l → at k.Ident (left l) ≡ true → Fails e (end_of_input m) (read g.params (left m)) → Stops e (then (sym g.named_type) (sym g.more_params)) [] l
+pub names_fail : {e : Error} {l : Reading} (m : Reading) → m ≡ l → at k.Ident (left l) ≡ true → Fails e (end_of_input m) (read (g.list_items g.params) (left m)) → Stops e (then (sym g.named_type) (sym (g.more_items g.params))) [] l
 names_fail {e = e} {l = l} m same there f =
     let begun = name_begins (left l) there in
-    let body = body_fails e (end_of_input l) (left l) (comma_list g.named_type k.CloseParen refl).is_list begun.0 (subst (λ (r : Reading). Fails e (end_of_input r) (read g.params (left r))) same f) in
+    let body = body_fails e (end_of_input l) (left l) (comma_list g.named_type k.CloseParen refl).is_list begun.0 (subst (λ (r : Reading). Fails e (end_of_input r) (read (g.list_items g.params) (left r))) same f) in
     record { fails = rw begun.1 at body }
 
 -- its parts are read
-pub names_yield : {l n : Reading} {front : List NamedType} {last : Item} (m : Reading) → m ≡ l → at k.Ident (left l) ≡ true → read g.params (left m) ≡ Ok ((front, last), left n) → end_of_input n ≡ end_of_input m
-    → (first : NamedType) × (others : Listed NamedType) × Yields (then (sym g.named_type) (sym g.more_params)) [] l (first, others) n × (first ∷ others.0 ≡ front)
+pub names_yield : {l n : Reading} {front : List NamedType} {last : Item} (m : Reading) → m ≡ l → at k.Ident (left l) ≡ true → read (g.list_items g.params) (left m) ≡ Ok ((front, last), left n) → end_of_input n ≡ end_of_input m
+    → (first : NamedType) × (others : Listed NamedType) × Yields (then (sym g.named_type) (sym (g.more_items g.params))) [] l (first, others) n × (first ∷ others.0 ≡ front)
 names_yield {l = l} {n = n} {last = last} m same there r ends =
     let begun = name_begins (left l) there in
-    let body = filled_ends (comma_list g.named_type k.CloseParen refl).is_list begun.0 (ap (λ (r : Reading). read g.params (left r)) (back same) ∙ r) in
+    let body = filled_ends (comma_list g.named_type k.CloseParen refl).is_list begun.0 (ap (λ (r : Reading). read (g.list_items g.params) (left r)) (back same) ∙ r) in
     (body.0, (body.1, last), record { reads = rw begun.1 at body.2; ends = ends ∙ ap end_of_input same }, body.3)

@@ -165,9 +165,9 @@ future_held (x ∷ xs) h = future_next (x ∷ xs) h ∙ read_is g.future_type (x
 
 -- a list that begins with a type is a tuple's
 pub tuple_reads : (xs : List Item) (a : Item) (ys : List Item) (b : Item) (zs : List Item) → read_token [] k.TupleKeyword xs ≡ Ok (a, ys) → read_token [] k.OpenAngle ys ≡ Ok (b, zs) → at_one_of (begins g.ty) zs ≡ true
-    → read g.tuple_type xs ≡ mapped (λ l. Ty.tuple (types_from l.0) (join a.span l.1.span)) (read g.types zs)
+    → read g.tuple_type xs ≡ mapped (λ l. Ty.tuple (types_from l.0) (join a.span l.1.span)) (read (g.list_items g.types) zs)
 tuple_reads xs a ys b zs h i begun =
-    read_is g.tuple_type xs ∙ rw (h, i, list_open (comma_list g.ty k.CloseAngle refl).is_list zs (type_not_closed zs begun), begun) (go (two (read g.ty zs) (λ t. read g.more_types)))
+    read_is g.tuple_type xs ∙ rw (h, i, list_open (comma_list g.ty k.CloseAngle refl).is_list zs (type_not_closed zs begun), begun) (go (two (read g.ty zs) (λ t. read (g.more_items g.types))))
   where
     go : (m : Reads (Ty × Listed Ty)) → mapped {B = Ty} (g.build g.tuple_type) (mapped (λ d. (a, d)) (mapped (λ c. (b, c)) m)) ≡ mapped (λ l. Ty.tuple (types_from l.0) (join a.span l.1.span)) (mapped {B = Listed Ty} (λ p. (p.0 ∷ p.1.0, p.1.1)) m)
     go (Ok y) = refl
@@ -267,16 +267,16 @@ payload_of (x ∷ xs) h = refl
 
 pub tuple_ends : (xs : List Item) (a : Item) (ys : List Item) (b : Item) (zs : List Item) (front : List Ty) (us : List Item) (last : Item) (vs : List Item)
     → read_token [] k.TupleKeyword xs ≡ Ok (a, ys) → read_token [] k.OpenAngle ys ≡ Ok (b, zs) → at_one_of (begins g.ty) zs ≡ true
-    → unclosed (read g.types zs) ≡ Ok (front, us) → at k.CloseAngle us ≡ true → read_token [] k.CloseAngle us ≡ Ok (last, vs)
+    → unclosed (read (g.list_items g.types) zs) ≡ Ok (front, us) → at k.CloseAngle us ≡ true → read_token [] k.CloseAngle us ≡ Ok (last, vs)
     → read g.tuple_type xs ≡ Ok (Ty.tuple (types_from front) (join a.span last.span), vs)
 tuple_ends xs a ys b zs front us last vs h i begun found shut r =
-    tuple_reads xs a ys b zs h i begun ∙ ap (mapped (λ (l : Listed Ty). Ty.tuple (types_from l.0) (join a.span l.1.span))) (closed_by k.CloseAngle refl (read g.types zs) front us last vs found shut r)
+    tuple_reads xs a ys b zs h i begun ∙ ap (mapped (λ (l : Listed Ty). Ty.tuple (types_from l.0) (join a.span l.1.span))) (closed_by k.CloseAngle refl (read (g.list_items g.types) zs) front us last vs found shut r)
 
 pub tuple_list_fails : (e : Error) (end : End) (xs : List Item) (a : Item) (ys : List Item) (b : Item) (zs : List Item)
     → read_token [] k.TupleKeyword xs ≡ Ok (a, ys) → read_token [] k.OpenAngle ys ≡ Ok (b, zs) → at_one_of (begins g.ty) zs ≡ true
-    → Fails e end (unclosed (read g.types zs)) → Fails e end (read g.tuple_type xs)
+    → Fails e end (unclosed (read (g.list_items g.types) zs)) → Fails e end (read g.tuple_type xs)
 tuple_list_fails e end xs a ys b zs h i begun f =
-    arm_fails e end (read g.tuple_type xs) (read g.types zs) (λ l. Ty.tuple (types_from l.0) (join a.span l.1.span)) (tuple_reads xs a ys b zs h i begun) (closed_fails e end (read g.types zs) f)
+    arm_fails e end (read g.tuple_type xs) (read (g.list_items g.types) zs) (λ l. Ty.tuple (types_from l.0) (join a.span l.1.span)) (tuple_reads xs a ys b zs h i begun) (closed_fails e end (read (g.list_items g.types) zs) f)
 
 pub at_has_more : (a : Token) (xs : List Item) → at a xs ≡ true → has_more xs ≡ true
 at_has_more a [] h = absurd cc

@@ -9,7 +9,7 @@ use Rattle.wac_ast_types.specs.declared.enum_decl.EnumDecl.{EnumDecl as CodeEnum
 use Rattle.wac_ast_base.specs.Names.{ident_of, doc_comment_of}
 use Rattle.wac_ast_types.specs.Types.{ty_of}
 use Rattle.wac_lexer.specs.declared.token.Token.TheVariants as tokens
-use Rattle.wac_ast_grammar.specs.Grammar.{Grammar, Parts, token, sym, optional, ◌▸◌, result_list, named_type, more_params}
+use Rattle.wac_ast_grammar.specs.Grammar.{Grammar, Parts, token, sym, optional, ◌▸◌, result_list, named_type, params, more_items}
 use Rattle.wac_ast_types.specs.declared.func_type.NamedType.{NamedType}
 use Rattle.wac_ast_types.specs.declared.func_type.ResultList.{ResultList}
 use Rattle.wac_ast_types.specs.declared.func_type.ResultList.TheVariants as results
@@ -85,7 +85,7 @@ results_rule = optional (token tokens.Arrow ▸ sym result_list)
 
 -- results with names
 abbrev pub named_rule : Grammar
-named_rule = token tokens.OpenParen ▸ sym named_type ▸ sym more_params
+named_rule = token tokens.OpenParen ▸ sym named_type ▸ sym (more_items params)
 
 abbrev pub named_results : Parts named_rule → List tree.NamedType
 named_results p = p.1.0 ∷ p.1.1.0

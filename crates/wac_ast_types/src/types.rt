@@ -329,7 +329,7 @@ fn parse_tuple<'a>(alloc: Global, lexer: &mut Lexer<'a>) -> ParseResult<Type<'a>
 /// The types up to a closing angle, which stays.
 #[cycle(types)]
 fn parse_types<'a>(alloc: Global, lexer: &mut Lexer<'a>) -> ParseResult<Vec<Type<'a>>>
-    ensures gives { Gives (λ v. map ty_of v.items) result lexer.old lexer.new (unclosed (read symbols.types (left lexer.old))) }
+    ensures gives { Gives (λ v. map ty_of v.items) result lexer.old lexer.new (unclosed (read (symbols.list_items symbols.types) (left lexer.old))) }
     ensures closed { OnOk result (at tokens.CloseAngle (left lexer.new) ≡ true) }
     ensures source { lexer.new.source ≡ lexer.old.source }
     ensures moves { lexer.old.place ≤ lexer.new.place }

@@ -1,7 +1,7 @@
 -- Declarations of types are read back.
 use Rattle.std.proofs.Common.{◌≡◌, ℕ, Bool, true, false, List, [], ◌∷◌, ◌++◌, map, sym as back, refl, ap, ◌∙◌, subst, Option, Some, None, inl, inr, codes}
 use Rattle.wac_ast_grammar.specs.Walk.{walk_constructor, walk_enum_case, walk_enum_decl, walk_field, walk_flag, walk_flags_decl, walk_func_type, walk_item_type_decl, walk_method, walk_named_type, walk_record_decl, walk_resource_decl, walk_resource_method, walk_ty, walk_type_alias, walk_type_alias_kind, walk_type_decl, walk_variant_case, walk_variant_decl}
-use Rattle.wac_printer_layout.proofs.Common.{AllByRecursion, flat_map, Item, Doc, slice, is_token, Ident, Ty, FuncType, Constructor, Method, ResourceMethod, ResourceDecl, VariantCase, VariantDecl, Field, RecordDecl, Flag, FlagsDecl, EnumCase, EnumDecl, TypeAliasKind, TypeAlias, TypeDecl, ItemTypeDecl, docs_of, build, Derives, named_type, constructor, method, resource_method, methods, resource_decl, variant_case, cases, more_cases, variant_decl, field, fields, more_fields, record_decl, flag, flags, more_flags, flags_decl, enum_case, enum_cases, more_enum_cases, enum_decl, type_alias_kind, type_alias, type_decl, item_type_decl, by_rule}
+use Rattle.wac_printer_layout.proofs.Common.{AllByRecursion, flat_map, Item, Doc, slice, is_token, Ident, Ty, FuncType, Constructor, Method, ResourceMethod, ResourceDecl, VariantCase, VariantDecl, Field, RecordDecl, Flag, FlagsDecl, EnumCase, EnumDecl, TypeAliasKind, TypeAlias, TypeDecl, ItemTypeDecl, docs_of, build, Derives, named_type, constructor, method, resource_method, methods, resource_decl, variant_case, cases, variant_decl, field, fields, record_decl, flag, flags, flags_decl, enum_case, enum_cases, enum_decl, type_alias_kind, type_alias, type_decl, item_type_decl, by_rule, list_items, more_items}
 use Rattle.wac_lexer.specs.declared.token.Token.TheVariants as kinds
 use Rattle.wac_ast_grammar.specs.Tree as tree
 use Rattle.wac_ast_grammar.specs.Grammar.{identifier}
@@ -153,14 +153,14 @@ module _ (S P : List ℕ) where
 
   variant_case_rows : (depth inner : ℕ) (x : VariantCase) (xs : List VariantCase) (ys : List Item) → AllByRecursion (walk_variant_case (has Spelled) (DocsHave Spelled)) (map (walk_variant_case (bare S) doc_lines) (x ∷ xs))
       → Means P [] ys (flat_map (λ y. variant_case_layout inner y ++ token (codes ",") ∷ newline ∷ []) (map (walk_variant_case (bare S) doc_lines) (x ∷ xs)) ++ close_body depth)
-      → (front : List Item) × (rest : List Item) × (u : VariantCase) × (q : List VariantCase × Item) × (ys ≡ front ++ rest) × Derives variant_case front u × Derives more_cases rest q × (walk_variant_case (bare P) read_docs u ≡ walk_variant_case (bare S) doc_lines x) × (map (walk_variant_case (bare P) read_docs) q.0 ≡ map (walk_variant_case (bare S) doc_lines) xs)
+      → (front : List Item) × (rest : List Item) × (u : VariantCase) × (q : List VariantCase × Item) × (ys ≡ front ++ rest) × Derives variant_case front u × Derives (more_items cases) rest q × (walk_variant_case (bare P) read_docs u ≡ walk_variant_case (bare S) doc_lines x) × (map (walk_variant_case (bare P) read_docs) q.0 ≡ map (walk_variant_case (bare S) doc_lines) xs)
   variant_case_rows depth inner x xs ys is h =
-      rows_first P (walk_variant_case (bare S) doc_lines) (walk_variant_case (bare P) read_docs) (walk_variant_case (has Spelled) (DocsHave Spelled)) (variant_case_layout inner) (Derives variant_case) (Derives cases) (λ q. q.0) (close_body depth) (variant_case_back inner)
-      (λ ds zs m. (([], m.0), by_rule cases zs (inl m.0) (alone m.0 m.1 zs m.2 m.4, ap (is_token kinds.CloseBrace) m.3.0, refl), refl))
-      (Derives more_cases)
-      (λ ds zs m. (([], m.0), by_rule more_cases zs (inl m.0) (alone m.0 m.1 zs m.2 m.4, ap (is_token kinds.CloseBrace) m.3.0, refl), refl))
-      (λ zs front rest u q e d m. ((u ∷ q.0, q.1), by_rule cases zs (inr (u, q)) (front, rest, e, d, m), refl))
-      (λ c zs rest q e t l. (q, by_rule more_cases zs (inr (c, q)) (c ∷ [], rest, e, (refl, t, refl), l), refl))
+      rows_first P (walk_variant_case (bare S) doc_lines) (walk_variant_case (bare P) read_docs) (walk_variant_case (has Spelled) (DocsHave Spelled)) (variant_case_layout inner) (Derives variant_case) (Derives (list_items cases)) (λ q. q.0) (close_body depth) (variant_case_back inner)
+      (λ ds zs m. (([], m.0), by_rule (list_items cases) zs (inl m.0) (alone m.0 m.1 zs m.2 m.4, ap (is_token kinds.CloseBrace) m.3.0, refl), refl))
+      (Derives (more_items cases))
+      (λ ds zs m. (([], m.0), by_rule (more_items cases) zs (inl m.0) (alone m.0 m.1 zs m.2 m.4, ap (is_token kinds.CloseBrace) m.3.0, refl), refl))
+      (λ zs front rest u q e d m. ((u ∷ q.0, q.1), by_rule (list_items cases) zs (inr (u, q)) (front, rest, e, d, m), refl))
+      (λ c zs rest q e t l. (q, by_rule (more_items cases) zs (inr (c, q)) (c ∷ [], rest, e, (refl, t, refl), l), refl))
       x xs ys is h
 
   variant_decl_by : (depth : ℕ) (docs : List Doc) (id : Ident) (xs : List VariantCase) (ys : List Item) → let x : VariantDecl = record { docs = docs; id = id; cases = xs } in
@@ -185,14 +185,14 @@ module _ (S P : List ℕ) where
 
   field_rows : (depth inner : ℕ) (x : Field) (xs : List Field) (ys : List Item) → AllByRecursion (walk_field (has Spelled) (DocsHave Spelled)) (map (walk_field (bare S) doc_lines) (x ∷ xs))
       → Means P [] ys (flat_map (λ y. field_layout inner y ++ token (codes ",") ∷ newline ∷ []) (map (walk_field (bare S) doc_lines) (x ∷ xs)) ++ close_body depth)
-      → (front : List Item) × (rest : List Item) × (u : Field) × (q : List Field × Item) × (ys ≡ front ++ rest) × Derives field front u × Derives more_fields rest q × (walk_field (bare P) read_docs u ≡ walk_field (bare S) doc_lines x) × (map (walk_field (bare P) read_docs) q.0 ≡ map (walk_field (bare S) doc_lines) xs)
+      → (front : List Item) × (rest : List Item) × (u : Field) × (q : List Field × Item) × (ys ≡ front ++ rest) × Derives field front u × Derives (more_items fields) rest q × (walk_field (bare P) read_docs u ≡ walk_field (bare S) doc_lines x) × (map (walk_field (bare P) read_docs) q.0 ≡ map (walk_field (bare S) doc_lines) xs)
   field_rows depth inner x xs ys is h =
-      rows_first P (walk_field (bare S) doc_lines) (walk_field (bare P) read_docs) (walk_field (has Spelled) (DocsHave Spelled)) (field_layout inner) (Derives field) (Derives fields) (λ q. q.0) (close_body depth) (field_back inner)
-      (λ ds zs m. (([], m.0), by_rule fields zs (inl m.0) (alone m.0 m.1 zs m.2 m.4, ap (is_token kinds.CloseBrace) m.3.0, refl), refl))
-      (Derives more_fields)
-      (λ ds zs m. (([], m.0), by_rule more_fields zs (inl m.0) (alone m.0 m.1 zs m.2 m.4, ap (is_token kinds.CloseBrace) m.3.0, refl), refl))
-      (λ zs front rest u q e d m. ((u ∷ q.0, q.1), by_rule fields zs (inr (u, q)) (front, rest, e, d, m), refl))
-      (λ c zs rest q e t l. (q, by_rule more_fields zs (inr (c, q)) (c ∷ [], rest, e, (refl, t, refl), l), refl))
+      rows_first P (walk_field (bare S) doc_lines) (walk_field (bare P) read_docs) (walk_field (has Spelled) (DocsHave Spelled)) (field_layout inner) (Derives field) (Derives (list_items fields)) (λ q. q.0) (close_body depth) (field_back inner)
+      (λ ds zs m. (([], m.0), by_rule (list_items fields) zs (inl m.0) (alone m.0 m.1 zs m.2 m.4, ap (is_token kinds.CloseBrace) m.3.0, refl), refl))
+      (Derives (more_items fields))
+      (λ ds zs m. (([], m.0), by_rule (more_items fields) zs (inl m.0) (alone m.0 m.1 zs m.2 m.4, ap (is_token kinds.CloseBrace) m.3.0, refl), refl))
+      (λ zs front rest u q e d m. ((u ∷ q.0, q.1), by_rule (list_items fields) zs (inr (u, q)) (front, rest, e, d, m), refl))
+      (λ c zs rest q e t l. (q, by_rule (more_items fields) zs (inr (c, q)) (c ∷ [], rest, e, (refl, t, refl), l), refl))
       x xs ys is h
 
   record_decl_by : (depth : ℕ) (docs : List Doc) (id : Ident) (xs : List Field) (ys : List Item) → let x : RecordDecl = record { docs = docs; id = id; fields = xs } in
@@ -217,14 +217,14 @@ module _ (S P : List ℕ) where
 
   flag_rows : (depth inner : ℕ) (x : Flag) (xs : List Flag) (ys : List Item) → AllByRecursion (walk_flag (has Spelled) (DocsHave Spelled)) (map (walk_flag (bare S) doc_lines) (x ∷ xs))
       → Means P [] ys (flat_map (λ y. flag_layout inner y ++ token (codes ",") ∷ newline ∷ []) (map (walk_flag (bare S) doc_lines) (x ∷ xs)) ++ close_body depth)
-      → (front : List Item) × (rest : List Item) × (u : Flag) × (q : List Flag × Item) × (ys ≡ front ++ rest) × Derives flag front u × Derives more_flags rest q × (walk_flag (bare P) read_docs u ≡ walk_flag (bare S) doc_lines x) × (map (walk_flag (bare P) read_docs) q.0 ≡ map (walk_flag (bare S) doc_lines) xs)
+      → (front : List Item) × (rest : List Item) × (u : Flag) × (q : List Flag × Item) × (ys ≡ front ++ rest) × Derives flag front u × Derives (more_items flags) rest q × (walk_flag (bare P) read_docs u ≡ walk_flag (bare S) doc_lines x) × (map (walk_flag (bare P) read_docs) q.0 ≡ map (walk_flag (bare S) doc_lines) xs)
   flag_rows depth inner x xs ys is h =
-      rows_first P (walk_flag (bare S) doc_lines) (walk_flag (bare P) read_docs) (walk_flag (has Spelled) (DocsHave Spelled)) (flag_layout inner) (Derives flag) (Derives flags) (λ q. q.0) (close_body depth) (flag_back inner)
-      (λ ds zs m. (([], m.0), by_rule flags zs (inl m.0) (alone m.0 m.1 zs m.2 m.4, ap (is_token kinds.CloseBrace) m.3.0, refl), refl))
-      (Derives more_flags)
-      (λ ds zs m. (([], m.0), by_rule more_flags zs (inl m.0) (alone m.0 m.1 zs m.2 m.4, ap (is_token kinds.CloseBrace) m.3.0, refl), refl))
-      (λ zs front rest u q e d m. ((u ∷ q.0, q.1), by_rule flags zs (inr (u, q)) (front, rest, e, d, m), refl))
-      (λ c zs rest q e t l. (q, by_rule more_flags zs (inr (c, q)) (c ∷ [], rest, e, (refl, t, refl), l), refl))
+      rows_first P (walk_flag (bare S) doc_lines) (walk_flag (bare P) read_docs) (walk_flag (has Spelled) (DocsHave Spelled)) (flag_layout inner) (Derives flag) (Derives (list_items flags)) (λ q. q.0) (close_body depth) (flag_back inner)
+      (λ ds zs m. (([], m.0), by_rule (list_items flags) zs (inl m.0) (alone m.0 m.1 zs m.2 m.4, ap (is_token kinds.CloseBrace) m.3.0, refl), refl))
+      (Derives (more_items flags))
+      (λ ds zs m. (([], m.0), by_rule (more_items flags) zs (inl m.0) (alone m.0 m.1 zs m.2 m.4, ap (is_token kinds.CloseBrace) m.3.0, refl), refl))
+      (λ zs front rest u q e d m. ((u ∷ q.0, q.1), by_rule (list_items flags) zs (inr (u, q)) (front, rest, e, d, m), refl))
+      (λ c zs rest q e t l. (q, by_rule (more_items flags) zs (inr (c, q)) (c ∷ [], rest, e, (refl, t, refl), l), refl))
       x xs ys is h
 
   flags_decl_by : (depth : ℕ) (docs : List Doc) (id : Ident) (xs : List Flag) (ys : List Item) → let x : FlagsDecl = record { docs = docs; id = id; flags = xs } in
@@ -249,14 +249,14 @@ module _ (S P : List ℕ) where
 
   enum_case_rows : (depth inner : ℕ) (x : EnumCase) (xs : List EnumCase) (ys : List Item) → AllByRecursion (walk_enum_case (has Spelled) (DocsHave Spelled)) (map (walk_enum_case (bare S) doc_lines) (x ∷ xs))
       → Means P [] ys (flat_map (λ y. enum_case_layout inner y ++ token (codes ",") ∷ newline ∷ []) (map (walk_enum_case (bare S) doc_lines) (x ∷ xs)) ++ close_body depth)
-      → (front : List Item) × (rest : List Item) × (u : EnumCase) × (q : List EnumCase × Item) × (ys ≡ front ++ rest) × Derives enum_case front u × Derives more_enum_cases rest q × (walk_enum_case (bare P) read_docs u ≡ walk_enum_case (bare S) doc_lines x) × (map (walk_enum_case (bare P) read_docs) q.0 ≡ map (walk_enum_case (bare S) doc_lines) xs)
+      → (front : List Item) × (rest : List Item) × (u : EnumCase) × (q : List EnumCase × Item) × (ys ≡ front ++ rest) × Derives enum_case front u × Derives (more_items enum_cases) rest q × (walk_enum_case (bare P) read_docs u ≡ walk_enum_case (bare S) doc_lines x) × (map (walk_enum_case (bare P) read_docs) q.0 ≡ map (walk_enum_case (bare S) doc_lines) xs)
   enum_case_rows depth inner x xs ys is h =
-      rows_first P (walk_enum_case (bare S) doc_lines) (walk_enum_case (bare P) read_docs) (walk_enum_case (has Spelled) (DocsHave Spelled)) (enum_case_layout inner) (Derives enum_case) (Derives enum_cases) (λ q. q.0) (close_body depth) (enum_case_back inner)
-      (λ ds zs m. (([], m.0), by_rule enum_cases zs (inl m.0) (alone m.0 m.1 zs m.2 m.4, ap (is_token kinds.CloseBrace) m.3.0, refl), refl))
-      (Derives more_enum_cases)
-      (λ ds zs m. (([], m.0), by_rule more_enum_cases zs (inl m.0) (alone m.0 m.1 zs m.2 m.4, ap (is_token kinds.CloseBrace) m.3.0, refl), refl))
-      (λ zs front rest u q e d m. ((u ∷ q.0, q.1), by_rule enum_cases zs (inr (u, q)) (front, rest, e, d, m), refl))
-      (λ c zs rest q e t l. (q, by_rule more_enum_cases zs (inr (c, q)) (c ∷ [], rest, e, (refl, t, refl), l), refl))
+      rows_first P (walk_enum_case (bare S) doc_lines) (walk_enum_case (bare P) read_docs) (walk_enum_case (has Spelled) (DocsHave Spelled)) (enum_case_layout inner) (Derives enum_case) (Derives (list_items enum_cases)) (λ q. q.0) (close_body depth) (enum_case_back inner)
+      (λ ds zs m. (([], m.0), by_rule (list_items enum_cases) zs (inl m.0) (alone m.0 m.1 zs m.2 m.4, ap (is_token kinds.CloseBrace) m.3.0, refl), refl))
+      (Derives (more_items enum_cases))
+      (λ ds zs m. (([], m.0), by_rule (more_items enum_cases) zs (inl m.0) (alone m.0 m.1 zs m.2 m.4, ap (is_token kinds.CloseBrace) m.3.0, refl), refl))
+      (λ zs front rest u q e d m. ((u ∷ q.0, q.1), by_rule (list_items enum_cases) zs (inr (u, q)) (front, rest, e, d, m), refl))
+      (λ c zs rest q e t l. (q, by_rule (more_items enum_cases) zs (inr (c, q)) (c ∷ [], rest, e, (refl, t, refl), l), refl))
       x xs ys is h
 
   enum_decl_by : (depth : ℕ) (docs : List Doc) (id : Ident) (xs : List EnumCase) (ys : List Item) → let x : EnumDecl = record { docs = docs; id = id; cases = xs } in

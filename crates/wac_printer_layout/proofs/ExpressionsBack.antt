@@ -1,7 +1,7 @@
 -- Expressions are read back.
 use Rattle.std.proofs.Common.{◌≡◌, ℕ, List, [], ◌∷◌, ◌++◌, map, sym as back, refl, ap, subst, inl, inr, codes}
 use Rattle.wac_ast_grammar.specs.Walk.{walk_arguments, walk_expr, walk_instantiation_argument, walk_postfix_expr, walk_primary_expr}
-use Rattle.wac_printer_layout.proofs.Common.{AllByRecursion, flat_map, Item, slice, is_token, Ident, String, PackageName, AccessExpr, NamedAccessExpr, PostfixExpr, InstantiationArgumentName, Expr, PrimaryExpr, Arguments, InstantiationArgument, arguments_from, build, Derives, access_expr, named_access_expr, postfix_expr, postfixes, argument, arguments, more_arguments, new_expr, nested_expr, primary_expr, expr, by_rule}
+use Rattle.wac_printer_layout.proofs.Common.{AllByRecursion, flat_map, Item, slice, is_token, Ident, String, PackageName, AccessExpr, NamedAccessExpr, PostfixExpr, InstantiationArgumentName, Expr, PrimaryExpr, Arguments, InstantiationArgument, arguments_from, build, Derives, access_expr, named_access_expr, postfix_expr, postfixes, argument, arguments, new_expr, nested_expr, primary_expr, expr, by_rule, list_items, more_items}
 use Rattle.wac_lexer.specs.declared.token.Token.TheVariants as kinds
 use Rattle.wac_ast_grammar.specs.Tree as tree
 use Rattle.wac_ast_grammar.specs.Grammar.{identifier}
@@ -43,20 +43,20 @@ module _ (S P : List ℕ) where
   ExprBack x ys = (u : Expr) × Derives expr ys u × (walk_expr (bare P) u ≡ walk_expr (bare S) x)
 
   abbrev ArgumentsBack : Arguments → List Item → Type 0
-  ArgumentsBack xs ys = (q : List InstantiationArgument × Item) × Derives arguments ys q × (walk_arguments (bare P) (arguments_from q.0) ≡ walk_arguments (bare S) xs)
+  ArgumentsBack xs ys = (q : List InstantiationArgument × Item) × Derives (list_items arguments) ys q × (walk_arguments (bare P) (arguments_from q.0) ≡ walk_arguments (bare S) xs)
 
   abbrev MoreBack : Arguments → List Item → Type 0
-  MoreBack xs ys = (q : List InstantiationArgument × Item) × Derives more_arguments ys q × (walk_arguments (bare P) (arguments_from q.0) ≡ walk_arguments (bare S) xs)
+  MoreBack xs ys = (q : List InstantiationArgument × Item) × Derives (more_items arguments) ys q × (walk_arguments (bare P) (arguments_from q.0) ≡ walk_arguments (bare S) xs)
 
   -- after an argument: the brace, or a comma and the others
   brace : (ds : List (List ℕ)) (ys : List Item) → Means P ds ys (token (codes "}") ∷ []) → MoreBack tree.Arguments.none ys
-  brace ds ys h = (([], h.0), by_rule more_arguments ys (inl h.0) (alone h.0 h.1 ys h.2 h.4, ap (is_token kinds.CloseBrace) h.3.0, refl), refl)
+  brace ds ys h = (([], h.0), by_rule (more_items arguments) ys (inl h.0) (alone h.0 h.1 ys h.2 h.4, ap (is_token kinds.CloseBrace) h.3.0, refl), refl)
 
   after_comma : (xs : Arguments) (depth : ℕ) (rest : List Piece) (ds : List (List ℕ)) (ys : List Item) → Means P ds ys ((token (codes ",") ∷ newline ∷ arguments_layout depth (walk_arguments (bare S) xs)) ++ rest)
       → ((zs : List Item) → Means P [] zs (arguments_layout depth (walk_arguments (bare S) xs) ++ rest) → ArgumentsBack xs zs) → MoreBack xs ys
   after_comma xs depth rest ds ys h others =
       let q = others h.1 h.4 in
-      (q.0, by_rule more_arguments ys (inr (h.0, q.0)) (h.0 ∷ [], h.1, h.2, (refl, ap (is_token kinds.Comma) h.3.0, refl), q.1), q.2)
+      (q.0, by_rule (more_items arguments) ys (inr (h.0, q.0)) (h.0 ∷ [], h.1, h.2, (refl, ap (is_token kinds.Comma) h.3.0, refl), q.1), q.2)
 
   more_back : (x : InstantiationArgument) (xs : Arguments) (depth outer : ℕ) (ds : List (List ℕ)) (ys : List Item)
       → Means P ds ys ((comma_layout (walk_instantiation_argument (bare S) x) (walk_arguments (bare S) xs) ++ newline ∷ arguments_layout depth (walk_arguments (bare S) xs)) ++ close_body outer)
@@ -71,11 +71,11 @@ module _ (S P : List ℕ) where
   -- between braces
   braced_back : (depth : ℕ) (xs : Arguments) (ds : List (List ℕ)) (ys : List Item) → Means P [] ys (braced_layout depth (walk_arguments (bare S) xs) (arguments_layout (deeper depth) (walk_arguments (bare S) xs)) ++ token (codes "}") ∷ [])
       → ((zs : List Item) → Means P [] zs (arguments_layout (deeper depth) (walk_arguments (bare S) xs) ++ close_body depth) → ArgumentsBack xs zs) → ArgumentsBack xs ys
-  braced_back depth tree.Arguments.none ds ys h others = (([], h.0), by_rule arguments ys (inl h.0) (alone h.0 h.1 ys h.2 h.4, ap (is_token kinds.CloseBrace) h.3.0, refl), refl)
+  braced_back depth tree.Arguments.none ds ys h others = (([], h.0), by_rule (list_items arguments) ys (inl h.0) (alone h.0 h.1 ys h.2 h.4, ap (is_token kinds.CloseBrace) h.3.0, refl), refl)
   braced_back depth (tree.Arguments.more (tree.InstantiationArgument.fill s) tree.Arguments.none) ds ys h others =
       let m = brace [] h.1 h.4 in
       let a = by_rule argument (h.0 ∷ []) (inl (h.0, inr tt)) (h.0 ∷ [], [], refl, (refl, ap (is_token kinds.Ellipsis) h.3.0, refl), refl) in
-      ((build argument (inl (h.0, inr tt)) ∷ m.0.0, m.0.1), by_rule arguments ys (inr (build argument (inl (h.0, inr tt)), m.0)) (h.0 ∷ [], h.1, h.2, a, m.1), ap (λ b. tree.Arguments.more (tree.InstantiationArgument.fill nowhere) b) m.2)
+      ((build argument (inl (h.0, inr tt)) ∷ m.0.0, m.0.1), by_rule (list_items arguments) ys (inr (build argument (inl (h.0, inr tt)), m.0)) (h.0 ∷ [], h.1, h.2, a, m.1), ap (λ b. tree.Arguments.more (tree.InstantiationArgument.fill nowhere) b) m.2)
   braced_back depth (tree.Arguments.more (tree.InstantiationArgument.fill s) (tree.Arguments.more y zs)) ds ys h others = others ys (regroup P [] ys (arguments_layout (deeper depth) (walk_arguments (bare S) (tree.Arguments.more (tree.InstantiationArgument.fill s) (tree.Arguments.more y zs)))) (line depth ∷ []) (token (codes "}") ∷ []) h)
   braced_back depth (tree.Arguments.more (tree.InstantiationArgument.spread x) xs) ds ys h others = others ys (regroup P [] ys (arguments_layout (deeper depth) (walk_arguments (bare S) (tree.Arguments.more (tree.InstantiationArgument.spread x) xs))) (line depth ∷ []) (token (codes "}") ∷ []) h)
   braced_back depth (tree.Arguments.more (tree.InstantiationArgument.named n x) xs) ds ys h others = others ys (regroup P [] ys (arguments_layout (deeper depth) (walk_arguments (bare S) (tree.Arguments.more (tree.InstantiationArgument.named n x) xs))) (line depth ∷ []) (token (codes "}") ∷ []) h)
@@ -112,13 +112,13 @@ module _ (S P : List ℕ) where
         (tree.PrimaryExpr.ident w.0, by_rule primary_expr ys (inr (inr w.0)) (subst (λ zs. Derives identifier zs w.0) (back (alone h.0 h.1 ys h.2 h.4)) w.1), ap tree.PrimaryExpr.ident w.2)
 
     arguments_back : (depth outer : ℕ) (xs : Arguments) (ys : List Item) → walk_arguments (has Spelled) (walk_arguments (bare S) xs) → Means P [] ys (arguments_layout depth (walk_arguments (bare S) xs) ++ close_body outer) → ArgumentsBack xs ys
-    arguments_back depth outer tree.Arguments.none ys is h = (([], h.0), by_rule arguments ys (inl h.0) (alone h.0 h.1 ys h.2 h.4, ap (is_token kinds.CloseBrace) h.3.0, refl), refl)
+    arguments_back depth outer tree.Arguments.none ys is h = (([], h.0), by_rule (list_items arguments) ys (inl h.0) (alone h.0 h.1 ys h.2 h.4, ap (is_token kinds.CloseBrace) h.3.0, refl), refl)
     arguments_back depth outer (tree.Arguments.more x xs) ys is h =
         let m = regroup P [] ys (argument_layout depth (walk_instantiation_argument (bare S) x)) (comma_layout (walk_instantiation_argument (bare S) x) (walk_arguments (bare S) xs) ++ newline ∷ arguments_layout depth (walk_arguments (bare S) xs)) (close_body outer) h in
         let c = split P [] ys (argument_layout depth (walk_instantiation_argument (bare S) x)) _ m in
         let r = argument_back depth x c.0 is.0 c.3 in
         let q = more_back x xs depth outer _ c.1 c.4 (λ zs k. arguments_back depth outer xs zs is.1 k) in
-        ((r.0 ∷ q.0.0, q.0.1), by_rule arguments ys (inr (r.0, q.0)) (c.0, c.1, c.2, r.1, q.1), (λ i. tree.Arguments.more (r.2 i) (q.2 i)))
+        ((r.0 ∷ q.0.0, q.0.1), by_rule (list_items arguments) ys (inr (r.0, q.0)) (c.0, c.1, c.2, r.1, q.1), (λ i. tree.Arguments.more (r.2 i) (q.2 i)))
 
     argument_back : (depth : ℕ) (x : InstantiationArgument) (ys : List Item) → walk_instantiation_argument (has Spelled) (walk_instantiation_argument (bare S) x) → Means P [] ys (argument_layout depth (walk_instantiation_argument (bare S) x))
         → (u : InstantiationArgument) × Derives argument ys u × (walk_instantiation_argument (bare P) u ≡ walk_instantiation_argument (bare S) x)

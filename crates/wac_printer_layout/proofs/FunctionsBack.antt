@@ -5,7 +5,7 @@ use Rattle.wac_printer_layout.specs.Bare.{bare}
 use Rattle.wac_printer_layout.proofs.Common.{◌⊎◌, AllByRecursion, Item, is_token, Ident, NamedType, ResultList, FuncType, FuncTypeRef, by_rule}
 use Rattle.wac_lexer.specs.declared.token.Token.TheVariants as kinds
 use Rattle.wac_ast_grammar.specs.Tree as tree
-use Rattle.wac_ast_grammar.specs.Grammar.{token as one_token, sym as one_sym, then, optional, build, is_there, results_of, DerivesIn, Derives, identifier, named_type, params, more_params, result_list, func_type, func_type_ref}
+use Rattle.wac_ast_grammar.specs.Grammar.{token as one_token, sym as one_sym, then, optional, build, is_there, results_of, DerivesIn, Derives, identifier, named_type, params, result_list, func_type, func_type_ref, list_items, more_items}
 use Rattle.wac_printer_layout.specs.Printed.{token}
 use Rattle.wac_printer_layout.specs.Parts.{joined}
 use Rattle.wac_printer_layout.specs.TypeLayout.{named_type_layout, results_layout, async_layout, func_type_layout, func_type_ref_layout}
@@ -25,29 +25,29 @@ module _ (S P : List ℕ) where
       let r = ty_back S P x.ty _ _ is.1 h2 in
       (build named_type (w.0, (h1.0, r.0)), by_rule named_type ys (w.0, (h1.0, r.0)) (h.0 ∷ [], h.1, h.2, w.1, (h1.0 ∷ [], h1.1, h1.2, (refl, ap (is_token kinds.Colon) h1.3.0, refl), r.1)), (λ i. record { id = w.2 i; ty = r.2 i }))
 
-  params_nil : (ds : List (List ℕ)) (ys : List Item) → Means P ds ys (token (codes ")") ∷ []) → (q : List NamedType × Item) × Derives params ys q × (map (walk_named_type (bare P)) q.0 ≡ [])
-  params_nil ds ys h = (([], h.0), by_rule params ys (inl h.0) (alone h.0 h.1 ys h.2 h.4, ap (is_token kinds.CloseParen) h.3.0, refl), refl)
+  params_nil : (ds : List (List ℕ)) (ys : List Item) → Means P ds ys (token (codes ")") ∷ []) → (q : List NamedType × Item) × Derives (list_items params) ys q × (map (walk_named_type (bare P)) q.0 ≡ [])
+  params_nil ds ys h = (([], h.0), by_rule (list_items params) ys (inl h.0) (alone h.0 h.1 ys h.2 h.4, ap (is_token kinds.CloseParen) h.3.0, refl), refl)
 
-  more_params_nil : (ds : List (List ℕ)) (ys : List Item) → Means P ds ys (token (codes ")") ∷ []) → (q : List NamedType × Item) × Derives more_params ys q × (map (walk_named_type (bare P)) q.0 ≡ [])
-  more_params_nil ds ys h = (([], h.0), by_rule more_params ys (inl h.0) (alone h.0 h.1 ys h.2 h.4, ap (is_token kinds.CloseParen) h.3.0, refl), refl)
+  more_params_nil : (ds : List (List ℕ)) (ys : List Item) → Means P ds ys (token (codes ")") ∷ []) → (q : List NamedType × Item) × Derives (more_items params) ys q × (map (walk_named_type (bare P)) q.0 ≡ [])
+  more_params_nil ds ys h = (([], h.0), by_rule (more_items params) ys (inl h.0) (alone h.0 h.1 ys h.2 h.4, ap (is_token kinds.CloseParen) h.3.0, refl), refl)
 
   pub params_back : (xs : List NamedType) (ys : List Item) → AllByRecursion (walk_named_type (has Spelled)) (map (walk_named_type (bare S)) xs) → Means P [] ys (joined named_type_layout (map (walk_named_type (bare S)) xs) ++ token (codes ")") ∷ [])
-      → (q : List NamedType × Item) × Derives params ys q × (map (walk_named_type (bare P)) q.0 ≡ map (walk_named_type (bare S)) xs)
+      → (q : List NamedType × Item) × Derives (list_items params) ys q × (map (walk_named_type (bare P)) q.0 ≡ map (walk_named_type (bare S)) xs)
   params_back xs ys is h =
-      joined_back P (walk_named_type (bare S)) (walk_named_type (bare P)) (walk_named_type (has Spelled)) named_type_layout (Derives named_type) (Derives params) (λ q. q.0) (token (codes ")") ∷ []) named_type_back params_nil
-      (Derives more_params) more_params_nil
-      (λ zs front rest u q e d m. ((u ∷ q.0, q.1), by_rule params zs (inr (u, q)) (front, rest, e, d, m), refl))
-      (λ c zs rest q e t l. (q, by_rule more_params zs (inr (c, q)) (c ∷ [], rest, e, (refl, t, refl), l), refl))
+      joined_back P (walk_named_type (bare S)) (walk_named_type (bare P)) (walk_named_type (has Spelled)) named_type_layout (Derives named_type) (Derives (list_items params)) (λ q. q.0) (token (codes ")") ∷ []) named_type_back params_nil
+      (Derives (more_items params)) more_params_nil
+      (λ zs front rest u q e d m. ((u ∷ q.0, q.1), by_rule (list_items params) zs (inr (u, q)) (front, rest, e, d, m), refl))
+      (λ c zs rest q e t l. (q, by_rule (more_items params) zs (inr (c, q)) (c ∷ [], rest, e, (refl, t, refl), l), refl))
       xs [] ys is h
 
   -- at least one name
   names_back : (x : NamedType) (xs : List NamedType) (ys : List Item) → AllByRecursion (walk_named_type (has Spelled)) (map (walk_named_type (bare S)) (x ∷ xs)) → Means P [] ys (joined named_type_layout (map (walk_named_type (bare S)) (x ∷ xs)) ++ token (codes ")") ∷ [])
-      → (front : List Item) × (rest : List Item) × (u : NamedType) × (q : List NamedType × Item) × (ys ≡ front ++ rest) × Derives named_type front u × Derives more_params rest q × (walk_named_type (bare P) u ≡ walk_named_type (bare S) x) × (map (walk_named_type (bare P)) q.0 ≡ map (walk_named_type (bare S)) xs)
+      → (front : List Item) × (rest : List Item) × (u : NamedType) × (q : List NamedType × Item) × (ys ≡ front ++ rest) × Derives named_type front u × Derives (more_items params) rest q × (walk_named_type (bare P) u ≡ walk_named_type (bare S) x) × (map (walk_named_type (bare P)) q.0 ≡ map (walk_named_type (bare S)) xs)
   names_back x xs ys is h =
-      joined_first P (walk_named_type (bare S)) (walk_named_type (bare P)) (walk_named_type (has Spelled)) named_type_layout (Derives named_type) (Derives params) (λ q. q.0) (token (codes ")") ∷ []) named_type_back params_nil
-      (Derives more_params) more_params_nil
-      (λ zs front rest u q e d m. ((u ∷ q.0, q.1), by_rule params zs (inr (u, q)) (front, rest, e, d, m), refl))
-      (λ c zs rest q e t l. (q, by_rule more_params zs (inr (c, q)) (c ∷ [], rest, e, (refl, t, refl), l), refl))
+      joined_first P (walk_named_type (bare S)) (walk_named_type (bare P)) (walk_named_type (has Spelled)) named_type_layout (Derives named_type) (Derives (list_items params)) (λ q. q.0) (token (codes ")") ∷ []) named_type_back params_nil
+      (Derives (more_items params)) more_params_nil
+      (λ zs front rest u q e d m. ((u ∷ q.0, q.1), by_rule (list_items params) zs (inr (u, q)) (front, rest, e, d, m), refl))
+      (λ c zs rest q e t l. (q, by_rule (more_items params) zs (inr (c, q)) (c ∷ [], rest, e, (refl, t, refl), l), refl))
       x xs ys is h
 
   results_back : (x : ResultList) (ds : List (List ℕ)) (ys : List Item) → walk_result_list (has Spelled) (walk_result_list (bare S) x) → Means P ds ys (results_layout (walk_result_list (bare S) x))

@@ -1,7 +1,7 @@
 -- Interfaces are read back.
 use Rattle.std.proofs.Common.{◌≡◌, ℕ, List, [], ◌∷◌, ◌++◌, map, sym as back, refl, ap, subst, Option, Some, None, inl, inr, codes}
 use Rattle.wac_ast_grammar.specs.Walk.{walk_func_type_ref, walk_inline_interface, walk_interface_decl, walk_interface_export, walk_interface_item, walk_use, walk_use_item, walk_use_path}
-use Rattle.wac_printer_layout.proofs.Common.{AllByRecursion, Item, is_token, Ident, PackagePath, FuncTypeRef, UsePath, UseItem, Use, InterfaceExport, InterfaceItem, InterfaceDecl, InlineInterface, docs_of, build, Derives, use_path, use_item, use_items, more_use_items, use_statement, interface_export, interface_item, interface_items, interface_decl, inline_interface, by_rule}
+use Rattle.wac_printer_layout.proofs.Common.{AllByRecursion, Item, is_token, Ident, PackagePath, FuncTypeRef, UsePath, UseItem, Use, InterfaceExport, InterfaceItem, InterfaceDecl, InlineInterface, docs_of, build, Derives, use_path, use_item, use_items, use_statement, interface_export, interface_item, interface_items, interface_decl, inline_interface, by_rule, list_items, more_items}
 use Rattle.wac_lexer.specs.declared.token.Token.TheVariants as kinds
 use Rattle.wac_ast_grammar.specs.Tree as tree
 use Rattle.wac_ast_grammar.specs.Grammar.{identifier, package_path}
@@ -48,14 +48,14 @@ module _ (S P : List ℕ) where
   use_item_back x ys is h = use_item_by x.id x.as_id ys is h
 
   use_items_back : (xs : List UseItem) (ys : List Item) → AllByRecursion (walk_use_item (has Spelled)) (map (walk_use_item (bare S)) xs) → Means P [] ys (joined use_item_layout (map (walk_use_item (bare S)) xs) ++ space ∷ token (codes "}") ∷ [])
-      → (q : List UseItem × Item) × Derives use_items ys q × (map (walk_use_item (bare P)) q.0 ≡ map (walk_use_item (bare S)) xs)
+      → (q : List UseItem × Item) × Derives (list_items use_items) ys q × (map (walk_use_item (bare P)) q.0 ≡ map (walk_use_item (bare S)) xs)
   use_items_back xs ys is h =
-      joined_back P (walk_use_item (bare S)) (walk_use_item (bare P)) (walk_use_item (has Spelled)) use_item_layout (Derives use_item) (Derives use_items) (λ q. q.0) (space ∷ token (codes "}") ∷ []) use_item_back
-      (λ ds zs m. (([], m.0), by_rule use_items zs (inl m.0) (alone m.0 m.1 zs m.2 m.4, ap (is_token kinds.CloseBrace) m.3.0, refl), refl))
-      (Derives more_use_items)
-      (λ ds zs m. (([], m.0), by_rule more_use_items zs (inl m.0) (alone m.0 m.1 zs m.2 m.4, ap (is_token kinds.CloseBrace) m.3.0, refl), refl))
-      (λ zs front rest u q e d m. ((u ∷ q.0, q.1), by_rule use_items zs (inr (u, q)) (front, rest, e, d, m), refl))
-      (λ c zs rest q e t l. (q, by_rule more_use_items zs (inr (c, q)) (c ∷ [], rest, e, (refl, t, refl), l), refl))
+      joined_back P (walk_use_item (bare S)) (walk_use_item (bare P)) (walk_use_item (has Spelled)) use_item_layout (Derives use_item) (Derives (list_items use_items)) (λ q. q.0) (space ∷ token (codes "}") ∷ []) use_item_back
+      (λ ds zs m. (([], m.0), by_rule (list_items use_items) zs (inl m.0) (alone m.0 m.1 zs m.2 m.4, ap (is_token kinds.CloseBrace) m.3.0, refl), refl))
+      (Derives (more_items use_items))
+      (λ ds zs m. (([], m.0), by_rule (more_items use_items) zs (inl m.0) (alone m.0 m.1 zs m.2 m.4, ap (is_token kinds.CloseBrace) m.3.0, refl), refl))
+      (λ zs front rest u q e d m. ((u ∷ q.0, q.1), by_rule (list_items use_items) zs (inr (u, q)) (front, rest, e, d, m), refl))
+      (λ c zs rest q e t l. (q, by_rule (more_items use_items) zs (inr (c, q)) (c ∷ [], rest, e, (refl, t, refl), l), refl))
       xs [] ys is h
 
   pub use_back : (depth : ℕ) (x : Use) (ys : List Item) → walk_use (has Spelled) (DocsHave Spelled) (walk_use (bare S) doc_lines x) → Means P [] ys (use_layout depth (walk_use (bare S) doc_lines x)) → (u : Use) × Derives use_statement ys u × (walk_use (bare P) read_docs u ≡ walk_use (bare S) doc_lines x)

@@ -1,7 +1,7 @@
 -- Types are read back.
 use Rattle.std.proofs.Common.{◌≡◌, ℕ, List, [], ◌∷◌, ◌++◌, sym as back, refl, ap, ◌∙◌, subst, Some, None, inl, inr, codes, append_assoc}
 use Rattle.wac_ast_grammar.specs.Walk.{walk_ty, walk_types}
-use Rattle.wac_printer_layout.proofs.Common.{Item, is_token, Ident, Ty, OptionalTy, Types, types_from, rule, build, DerivesIn, Derives, ty, tuple_type, list_type, option_type, result_type, borrow_type, stream_type, future_type, types, more_types, result_part, payload, by_rule}
+use Rattle.wac_printer_layout.proofs.Common.{Item, is_token, Ident, Ty, OptionalTy, Types, types_from, rule, build, DerivesIn, Derives, ty, tuple_type, list_type, option_type, result_type, borrow_type, stream_type, future_type, types, result_part, payload, by_rule, list_items, more_items}
 use Rattle.wac_lexer.specs.declared.token.Token.TheVariants as kinds
 use Rattle.wac_ast_grammar.specs.Tree as tree
 use Rattle.wac_ast_grammar.specs.Grammar.{identifier}
@@ -18,7 +18,7 @@ module _ (S P : List ℕ) where
   TyBack x ys = (u : Ty) × Derives ty ys u × (walk_ty (bare P) u ≡ walk_ty (bare S) x)
 
   abbrev MoreBack : Types → List Item → Type 0
-  MoreBack xs ys = (u : List Ty × Item) × Derives more_types ys u × (walk_types (bare P) (types_from u.0) ≡ walk_types (bare S) xs)
+  MoreBack xs ys = (u : List Ty × Item) × Derives (more_items types) ys u × (walk_types (bare P) (types_from u.0) ≡ walk_types (bare S) xs)
 
   payload_none : (ys : List Item) → ys ≡ [] → Derives payload ys None
   payload_none ys e = by_rule payload ys (inr tt) e
@@ -128,12 +128,12 @@ module _ (S P : List ℕ) where
         (build future_type (h.0, Some (r.0, l.0)), by_rule ty ys (inr (inr (inr (inr (inr (inr (inr (inr (inr (inr (inr (inr (inr (inr (inr (inr (inr (inr (inr (inl (build future_type (h.0, Some (r.0, l.0))))))))))))))))))))))) (by_rule future_type ys (h.0, Some (r.0, l.0)) (h.0 ∷ [], h.1, h.2, (refl, ap (is_token kinds.FutureKeyword) h.3.0, refl), e)), ap (λ b. tree.Ty.future (tree.OptionalTy.present b) nowhere) r.2)
 
     more_back : (xs : Types) (ds : List (List ℕ)) (ys : List Item) → walk_types (has Spelled) (walk_types (bare S) xs) → Means P ds ys (further_types_layout (walk_types (bare S) xs) ++ token (codes ">") ∷ []) → MoreBack xs ys
-    more_back tree.Types.none ds ys is h = (([], h.0), by_rule more_types ys (inl h.0) (alone h.0 h.1 ys h.2 h.4, ap (is_token kinds.CloseAngle) h.3.0, refl), refl)
+    more_back tree.Types.none ds ys is h = (([], h.0), by_rule (more_items types) ys (inl h.0) (alone h.0 h.1 ys h.2 h.4, ap (is_token kinds.CloseAngle) h.3.0, refl), refl)
     more_back (tree.Types.more x xs) ds ys is h =
         let h1 = h.4 in
         let m = regroup h.1 _ (ty_layout (walk_ty (bare S) x)) (further_types_layout (walk_types (bare S) xs)) (token (codes ">") ∷ []) h1 in
         let c = split P _ _ (ty_layout (walk_ty (bare S) x)) _ m in
         let r = ty_back x _ c.0 is.0 c.3 in
         let q = more_back xs _ c.1 is.1 c.4 in
-        let others = by_rule types h.1 (inr (r.0, q.0)) (c.0, c.1, c.2, r.1, q.1) in
-        ((r.0 ∷ q.0.0, q.0.1), by_rule more_types ys (inr (h.0, (r.0 ∷ q.0.0, q.0.1))) (h.0 ∷ [], h.1, h.2, (refl, ap (is_token kinds.Comma) h.3.0, refl), others), (λ i. tree.Types.more (r.2 i) (q.2 i)))
+        let others = by_rule (list_items types) h.1 (inr (r.0, q.0)) (c.0, c.1, c.2, r.1, q.1) in
+        ((r.0 ∷ q.0.0, q.0.1), by_rule (more_items types) ys (inr (h.0, (r.0 ∷ q.0.0, q.0.1))) (h.0 ∷ [], h.1, h.2, (refl, ap (is_token kinds.Comma) h.3.0, refl), others), (λ i. tree.Types.more (r.2 i) (q.2 i)))

@@ -1,7 +1,7 @@
 -- Worlds are read back.
 use Rattle.std.proofs.Common.{◌≡◌, ℕ, List, [], ◌∷◌, ◌++◌, map, sym as back, refl, ap, ◌∙◌, subst, inl, inr, codes}
 use Rattle.wac_ast_grammar.specs.Walk.{walk_extern_type, walk_world_decl, walk_world_export, walk_world_import, walk_world_include, walk_world_include_item, walk_world_item, walk_world_item_path, walk_world_ref}
-use Rattle.wac_printer_layout.proofs.Common.{AllByRecursion, flat_map, Item, Doc, is_token, Ident, PackagePath, ExternType, NamedWorldItem, WorldItemPath, WorldImport, WorldExport, WorldRef, WorldIncludeItem, WorldInclude, WorldItem, WorldDecl, docs_of, build, Derives, extern_type, world_item_path, world_import, world_export, world_ref, include_item, include_items, more_include_items, world_include, world_item, world_items, world_decl, by_rule}
+use Rattle.wac_printer_layout.proofs.Common.{AllByRecursion, flat_map, Item, Doc, is_token, Ident, PackagePath, ExternType, NamedWorldItem, WorldItemPath, WorldImport, WorldExport, WorldRef, WorldIncludeItem, WorldInclude, WorldItem, WorldDecl, docs_of, build, Derives, extern_type, world_item_path, world_import, world_export, world_ref, include_item, include_items, world_include, world_item, world_items, world_decl, by_rule, list_items, more_items}
 use Rattle.wac_lexer.specs.declared.token.Token.TheVariants as kinds
 use Rattle.wac_ast_grammar.specs.Tree as tree
 use Rattle.wac_ast_grammar.specs.Grammar.{identifier, package_path}
@@ -66,14 +66,14 @@ module _ (S P : List ℕ) where
 
   include_rows : (depth inner : ℕ) (xs : List WorldIncludeItem) (ys : List Item) → AllByRecursion (walk_world_include_item (has Spelled)) (map (walk_world_include_item (bare S)) xs)
       → Means P [] ys (flat_map (λ y. world_include_item_layout inner y ++ token (codes ",") ∷ newline ∷ []) (map (walk_world_include_item (bare S)) xs) ++ close_body depth)
-      → (q : List WorldIncludeItem × Item) × Derives include_items ys q × (map (walk_world_include_item (bare P)) q.0 ≡ map (walk_world_include_item (bare S)) xs)
+      → (q : List WorldIncludeItem × Item) × Derives (list_items include_items) ys q × (map (walk_world_include_item (bare P)) q.0 ≡ map (walk_world_include_item (bare S)) xs)
   include_rows depth inner xs ys is h =
-      rows_back P (walk_world_include_item (bare S)) (walk_world_include_item (bare P)) (walk_world_include_item (has Spelled)) (world_include_item_layout inner) (Derives include_item) (Derives include_items) (λ q. q.0) (close_body depth) (include_item_back inner)
-      (λ ds zs m. (([], m.0), by_rule include_items zs (inl m.0) (alone m.0 m.1 zs m.2 m.4, ap (is_token kinds.CloseBrace) m.3.0, refl), refl))
-      (Derives more_include_items)
-      (λ ds zs m. (([], m.0), by_rule more_include_items zs (inl m.0) (alone m.0 m.1 zs m.2 m.4, ap (is_token kinds.CloseBrace) m.3.0, refl), refl))
-      (λ zs front rest u q e d m. ((u ∷ q.0, q.1), by_rule include_items zs (inr (u, q)) (front, rest, e, d, m), refl))
-      (λ c zs rest q e t l. (q, by_rule more_include_items zs (inr (c, q)) (c ∷ [], rest, e, (refl, t, refl), l), refl))
+      rows_back P (walk_world_include_item (bare S)) (walk_world_include_item (bare P)) (walk_world_include_item (has Spelled)) (world_include_item_layout inner) (Derives include_item) (Derives (list_items include_items)) (λ q. q.0) (close_body depth) (include_item_back inner)
+      (λ ds zs m. (([], m.0), by_rule (list_items include_items) zs (inl m.0) (alone m.0 m.1 zs m.2 m.4, ap (is_token kinds.CloseBrace) m.3.0, refl), refl))
+      (Derives (more_items include_items))
+      (λ ds zs m. (([], m.0), by_rule (more_items include_items) zs (inl m.0) (alone m.0 m.1 zs m.2 m.4, ap (is_token kinds.CloseBrace) m.3.0, refl), refl))
+      (λ zs front rest u q e d m. ((u ∷ q.0, q.1), by_rule (list_items include_items) zs (inr (u, q)) (front, rest, e, d, m), refl))
+      (λ c zs rest q e t l. (q, by_rule (more_items include_items) zs (inr (c, q)) (c ∷ [], rest, e, (refl, t, refl), l), refl))
       xs ys is h
 
   pub world_import_back : (depth : ℕ) (x : WorldImport) (ys : List Item) → walk_world_import (has Spelled) (DocsHave Spelled) (walk_world_import (bare S) doc_lines x) → Means P [] ys (world_import_layout depth (walk_world_import (bare S) doc_lines x)) → (u : WorldImport) × Derives world_import ys u × (walk_world_import (bare P) read_docs u ≡ walk_world_import (bare S) doc_lines x)

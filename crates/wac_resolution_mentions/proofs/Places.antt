@@ -6,7 +6,7 @@ use Rattle.wac_lexer.specs.declared.token.Token.TheVariants as t
 use Rattle.wac_lexer.specs.Item.{Item}
 use Rattle.wac_lexer.specs.Items.{items}
 use Rattle.wac_lexer.specs.Order.{InOrder}
-use Rattle.wac_ast_grammar.specs.Grammar.{Sym, document, directive, statements, statement, import_statement, import_type, let_statement, export_statement, expr, primary_expr, new_expr, arguments, more_arguments, argument, nested_expr, type_statement, interface_decl, inline_interface, interface_items, interface_item, use_statement, use_path, world_decl, world_items, world_item, world_import, world_export, world_item_path, extern_type, world_include, world_ref, package_name, package_path, rule, build, TreeOf, Parts, Grammar, token, sym, then, either, nothing, to_end, docs, not_empty, more, or_told, DerivesIn, DerivesBy}
+use Rattle.wac_ast_grammar.specs.Grammar.{Sym, document, directive, statements, statement, import_statement, import_type, let_statement, export_statement, expr, primary_expr, new_expr, arguments, argument, nested_expr, type_statement, interface_decl, inline_interface, interface_items, interface_item, use_statement, use_path, world_decl, world_items, world_item, world_import, world_export, world_item_path, extern_type, world_include, world_ref, package_name, package_path, rule, build, TreeOf, Parts, Grammar, token, sym, then, either, nothing, to_end, docs, not_empty, more, or_told, DerivesIn, DerivesBy, list_items, more_items}
 use Rattle.wac_ast_grammar.specs.Segments.{package_name_span}
 use Rattle.wac_ast_grammar.specs.TextTree.{IsTreeOf}
 use Rattle.wac_ast_grammar.specs.Tree.{InstantiationArgument}
@@ -31,8 +31,8 @@ said own export_statement x = expr_mentions own x.expr
 said own expr x = expr_mentions own x
 said own primary_expr x = primary_mentions own x
 said own new_expr x = primary_mentions own x
-said own arguments x = flat_map (argument_mentions own) x.0
-said own more_arguments x = flat_map (argument_mentions own) x.0
+said own (list_items arguments) x = flat_map (argument_mentions own) x.0
+said own (more_items arguments) x = flat_map (argument_mentions own) x.0
 said own argument x = argument_mentions own x
 said own nested_expr x = primary_mentions own x
 said own type_statement x = type_mentions own x
@@ -109,10 +109,10 @@ build_between own primary_expr (inl x) low high l h = h
 build_between own primary_expr (inr (inl x)) low high l h = h
 build_between own primary_expr (inr (inr x)) low high l h = h
 build_between own new_expr (first, (name, (_, (xs, last)))) low high l h = subst (λ ms. Between low (name_mentions own name ++ ms) high) (in_a_row own xs) h
-build_between own arguments (inl last) low high l h = h
-build_between own arguments (inr (x, others)) low high l h = h
-build_between own more_arguments (inl last) low high l h = h
-build_between own more_arguments (inr (_, others)) low high l h = h
+build_between own (list_items arguments) (inl last) low high l h = h
+build_between own (list_items arguments) (inr (x, others)) low high l h = h
+build_between own (more_items arguments) (inl last) low high l h = h
+build_between own (more_items arguments) (inr (_, others)) low high l h = h
 build_between own argument (inl (dots, inl id)) low high l h = h
 build_between own argument (inl (dots, inr _)) low high l h = h
 build_between own argument (inr (inl (id, inl (_, value)))) low high l h = h

@@ -1,5 +1,5 @@
 use Rattle.std.proofs.Common.{◌≡◌, ◌<◌, ◌^◌, ◌++◌, ◌∷◌, [], map, length, sym as back, refl, subst, ◌∙◌, arith}
-use Rattle.wac_ast_expressions.proofs.Common.{map_push, left, end_of, PrimaryExpr, expr, named_argument, primary_expr, new_expr, nested_expr, argument, arguments, argument_name, package_name, primary_span, read, takes_some, fails_bind, looks, comma_list, item_fails, item_less, item_missing, item_there, list_closed, list_goes_on, so_far_fails, step_fails, token_less, moved_end, same_fails, closed_by, closed_fails, never_fails}
+use Rattle.wac_ast_expressions.proofs.Common.{map_push, left, end_of, PrimaryExpr, expr, named_argument, primary_expr, new_expr, nested_expr, argument, arguments, argument_name, package_name, primary_span, read, takes_some, fails_bind, looks, comma_list, item_fails, item_less, item_missing, item_there, list_closed, list_goes_on, so_far_fails, step_fails, token_less, moved_end, same_fails, closed_by, closed_fails, never_fails, list_items}
 use Rattle.wac_lexer.specs.declared.token.Token.TheVariants as tokens
 use Rattle.wac_ast_expressions.specs.Expressions.{argument_of, expr_of}
 use Rattle.wac_ast_base.proofs.Optional.{gives_behind}
@@ -83,12 +83,12 @@ pub NewExprParse::parse-returns-in_err-arguments-clause-gives : goal.NewExprPars
 NewExprParse::parse-returns-in_err-arguments-clause-gives t c = x.exits new_expr _ _ _ c.from_residual-in_err-arguments.ensures.1 (x.took c.in_ok-first.ensures.takes (x.past c.in_ok-package.ensures.gives (x.took c.in_ok-take_token.ensures.takes (x.last (closed_fails _ _ _ c.in_err-arguments.ensures.gives)))))
 
 pub NewExprParse::parse-returns-in_err-last-clause-gives : goal.NewExprParse::parse-returns-in_err-last-clause-gives
-NewExprParse::parse-returns-in_err-last-clause-gives t c = x.exits new_expr _ _ _ c.from_residual-in_err-last.ensures.1 (x.took c.in_ok-first.ensures.takes (x.past c.in_ok-package.ensures.gives (x.took c.in_ok-take_token.ensures.takes (x.last (moved_end _ _ _ _ c.in_ok-arguments.ensures.gives.1 (never_fails _ _ tokens.CloseBrace (left c.parse_arguments.new.lexer) (read arguments (left c.take_token-2.new.lexer)) refl c.in_ok-arguments.ensures.closed c.in_err-last.ensures.takes))))))
+NewExprParse::parse-returns-in_err-last-clause-gives t c = x.exits new_expr _ _ _ c.from_residual-in_err-last.ensures.1 (x.took c.in_ok-first.ensures.takes (x.past c.in_ok-package.ensures.gives (x.took c.in_ok-take_token.ensures.takes (x.last (moved_end _ _ _ _ c.in_ok-arguments.ensures.gives.1 (never_fails _ _ tokens.CloseBrace (left c.parse_arguments.new.lexer) (read (list_items arguments) (left c.take_token-2.new.lexer)) refl c.in_ok-arguments.ensures.closed c.in_err-last.ensures.takes))))))
 
 pub NewExprParse::parse-returns-clause-gives : goal.NewExprParse::parse-returns-clause-gives
 NewExprParse::parse-returns-clause-gives t c =
     let last = c.in_ok-last.ensures.takes in
-    let list = closed_by tokens.CloseBrace refl (read arguments (left c.take_token-2.new.lexer)) _ _ _ _ c.in_ok-arguments.ensures.gives.0 c.in_ok-arguments.ensures.closed last.0 in
+    let list = closed_by tokens.CloseBrace refl (read (list_items arguments) (left c.take_token-2.new.lexer)) _ _ _ _ c.in_ok-arguments.ensures.gives.0 c.in_ok-arguments.ensures.closed last.0 in
     y.gives new_expr (y.took c.in_ok-first.ensures.takes (y.past c.in_ok-package.ensures.gives (y.took c.in_ok-take_token.ensures.takes (y.last (list, last.2 ∙ c.in_ok-arguments.ensures.gives.1))))) (rw (c.join.ensures, c.in_ok-first.ensures.takes.1, last.1))
 
 -- ---- arguments

@@ -32,7 +32,7 @@ decreases-parse_listed l = length (left l.lexer.now) * 5 + 2
 
 abbrev pub invariant-parse_types-loop-alloc : goal.invariant-parse_types-loop-alloc
 invariant-parse_types-loop-alloc l = record {
-  so_far : ListSoFar (read g.types) (map ty_of l.types.items) l.fn.lexer l.lexer;
+  so_far : ListSoFar (read (g.list_items g.types)) (map ty_of l.types.items) l.fn.lexer l.lexer;
   shorter : length (left l.lexer) ≤ length (left l.fn.lexer);
 }
 
