@@ -183,14 +183,15 @@ IsUsable interface x = (m : Meaning) × (export_of interface x.id.string ≡ Som
 abbrev pub as_clause : List ℕ
 as_clause = codes "consider using an `as` clause to use a different name"
 
-abbrev pub help_of_use : Option Ident → Option (List ℕ)
-help_of_use None = Some as_clause
-help_of_use (Some x) = None
+-- the help, where no name is written
+abbrev pub help_unless : {X : Type 0} → Option X → Option (List ℕ)
+help_unless None = Some as_clause
+help_unless (Some x) = None
 
 -- the name here is among the externs already
 abbrev pub IsUseConflict : ExternKind → Body → UseItem → Error → Type 0
 IsUseConflict side old x e = (m : Meaning) × StandsFor (externs side old) (used_as x).string m
-    × (e ≡ use_conflict side (used_as x).string (used_as x).span (help_of_use x.as_id))
+    × (e ≡ use_conflict side (used_as x).string (used_as x).span (help_unless x.as_id))
 
 abbrev pub UseItemBroken : ExternKind → Meaning → List ℕ → Error → Body → List UseItem → UseItem → Type 0
 UseItemBroken side interface path e old before x = IsNoTypeThere interface path x e

@@ -23,7 +23,7 @@ use Rattle.wac_resolution_rules.specs.Statements.{ImportsKind, name_imported, de
 use Rattle.wac_resolution_rules.specs.Target.{allowed, open_imports, all_imports, ImportAllowed, ExportMet}
 use Rattle.wac_resolution_errors.specs.Error.{Error, Operation, duplicate_extern_name, export_conflict, export_requires_as, import_not_in_target, invalid_extern_name, missing_target_export, not_world, spread_export_no_effect, target_mismatch}
 use Rattle.wac_resolution_rules.specs.BrokenTypes.{IsUndefined, FuncBroken}
-use Rattle.wac_resolution_rules.specs.BrokenBodies.{PathBroken, as_clause}
+use Rattle.wac_resolution_rules.specs.BrokenBodies.{PathBroken, as_clause, help_unless}
 use Rattle.wac_resolution_rules.specs.BrokenWorlds.{InterfaceBroken, IsBound, DeclarationBroken}
 use Rattle.wac_resolution_rules.specs.BrokenExpressions.{ReachedAt, IsNotInstance, ExprBroken}
 use Rattle.wac_resolution_rules.specs.Spans.{expr_span, import_span}
@@ -135,11 +135,6 @@ ImportKindBroken s old e (ImportType.interface x) =
     InterfaceBroken s.context (root_scope old) None old.resources x.items e
 ImportKindBroken s old e (ImportType.path x) = PathBroken s.context (root_scope old) x e
 ImportKindBroken s old e (ImportType.ident x) = IsUndefined (root_scope old) x e
-
--- the help, where no name is written
-abbrev pub help_unless : {X : Type 0} → Option X → Option (List ℕ)
-help_unless None = Some as_clause
-help_unless (Some x) = None
 
 -- one of the tests of an import's name and identifier, in order
 abbrev pub ImportNameBroken : Given → Composition → Places → Error → ImportStatement → List ℕ → Type 0
