@@ -27,10 +27,8 @@ bound_in_interface_item (InterfaceItem.ty d) = at_ident (item_identifier d) ∷ 
 
 abbrev pub bound_in_world_item : WorldItem → Named Span
 bound_in_world_item (WorldItem.use_statement u) = used_at u.items
-bound_in_world_item (WorldItem.world_import x) = []
-bound_in_world_item (WorldItem.world_export x) = []
-bound_in_world_item (WorldItem.world_include x) = []
 bound_in_world_item (WorldItem.ty d) = at_ident (item_identifier d) ∷ []
+bound_in_world_item _ = []
 
 -- what the items of a body bind to types, and where
 abbrev pub bound_in_interface : List InterfaceItem → Named Span

@@ -36,10 +36,8 @@ abbrev pub expr_span : Expr → Span
 expr_span (Expr.expr span first others) = span
 
 abbrev pub unnamed_import_span : Ident → ImportType → Span
-unnamed_import_span id (ImportType.func x) = id.span
-unnamed_import_span id (ImportType.interface x) = id.span
 unnamed_import_span id (ImportType.path x) = x.span
-unnamed_import_span id (ImportType.ident x) = id.span
+unnamed_import_span id _ = id.span
 
 -- where an import's name is: after `as`, else the path, else the identifier
 abbrev pub import_span : ImportStatement → Span
