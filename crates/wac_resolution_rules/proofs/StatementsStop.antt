@@ -31,10 +31,10 @@ bound_stops : (c : Composition) (p : Places) (id : Ident) (e : Error) → IsBoun
 bound_stops c p id e u fresh = neither (look_up id.string c.declared) u.0 fresh u.2
 
 imported_stops : (c : Composition) (p : Places) (name : List ℕ) (span : Span) (help : Option (List ℕ)) (e : Error) → IsImportedAlready c p name span help e → IsFresh name (imports c) → ⊥
-imported_stops c p name span help e u fresh = neither (look_up name (imports c)) u.kind fresh u.imported
+imported_stops c p name span help e u fresh = neither (look_up name (imports c)) u.0 fresh u.2
 
 exported_stops : (c : Composition) (p : Places) (name : List ℕ) (span : Span) (help : Option (List ℕ)) (e : Error) → IsExportedAlready c p name span help e → IsFresh name c.exports → ⊥
-exported_stops c p name span help e u fresh = neither (look_up name c.exports) u.node fresh u.exported
+exported_stops c p name span help e u fresh = neither (look_up name c.exports) u.0 fresh u.2
 
 invalid_stops : (s : Given) (name : List ℕ) (kind : ExternKind) (span : Span) (e : Error) → IsInvalidName s name kind span e → s.rules.named name ≡ None → ⊥
 invalid_stops s name kind span e u h = neither (s.rules.named name) u.0 h u.1

@@ -20,7 +20,7 @@ use Rattle.wac_resolution_rules.specs.Paths.{Context, is_own, key_of_path, segme
 use Rattle.wac_resolution_rules.specs.Declarations.{IsVariant, IsRecord, IsFlags, IsEnum, IsAlias, in_body}
 use Rattle.wac_resolution_rules.specs.Types.{first_params}
 use Rattle.wac_resolution_rules.specs.Bodies.{Body, externs, constructor_name, method_name, static_name, HasMethod, with_resource, used_as, UsesItem}
-use Rattle.wac_resolution_rules.specs.BrokenTypes.{IsUndefined, ParamsBroken, FuncBroken}
+use Rattle.wac_resolution_rules.specs.BrokenTypes.{IsUndefined, IsRepeated, IsTaken, ParamsBroken, FuncBroken}
 use Rattle.wac_resolution_rules.specs.BrokenDeclarations.{VariantBroken, RecordBroken, FlagsBroken, EnumBroken, AliasBroken}
 use Rattle.wac_resolution_rules.specs.Spans.{use_path_name, use_path_span}
 
@@ -90,8 +90,7 @@ pub data Owner : Type 0 where
 
 -- the identifier is bound in the body already
 abbrev pub IsBoundInBody : Named Span → Scope → Ident → Error → Type 0
-IsBoundInBody places scope x e = (m : Meaning) × (previous : Span) × StandsFor scope x.string m
-    × StandsFor places x.string previous × (e ≡ duplicate_name x.string x.span previous)
+IsBoundInBody places scope x e = IsTaken scope places x.string (duplicate_name x.string x.span) e
 
 abbrev pub conflict : Owner → ExternKind → List ℕ → Span → Error
 conflict (of_interface name) side x at = duplicate_interface_export x name at
@@ -99,7 +98,7 @@ conflict (of_world name) side x at = duplicate_world_item side x name at
 
 -- the name is among the externs already
 abbrev pub IsConflict : Owner → ExternKind → Body → List ℕ → Span → Error → Type 0
-IsConflict of side old x at e = (m : Meaning) × StandsFor (externs side old) x m × (e ≡ conflict of side x at)
+IsConflict of side old x at e = IsRepeated (externs side old) x (conflict of side x at) e
 
 -- the identifier is bound already, or its name is among the externs
 abbrev pub NameBroken : Owner → ExternKind → Named Span → Body → Ident → Error → Type 0
@@ -107,11 +106,6 @@ NameBroken of side places old x e = IsBoundInBody places old.scope x e
     ⊎ (IsFresh x.string old.scope × IsConflict of side old x.string x.span e)
 
 -- ---- resources
-
--- the resource has a constructor already
-abbrev pub IsSecondConstructor : ExternKind → List ℕ → Body → Span → Error → Type 0
-IsSecondConstructor side resource old at e = (m : Meaning) × StandsFor (externs side old) (constructor_name resource) m
-    × (e ≡ duplicate_resource_constructor resource at)
 
 -- the resource has a method of that name already
 abbrev pub IsSecondMethod : ExternKind → List ℕ → Body → Ident → Error → Type 0
@@ -124,9 +118,10 @@ abbrev pub method_kind : Bool → FuncKind
 method_kind true = funcs.Static
 method_kind false = funcs.Method
 
+-- the resource has a constructor already, or such a method; or the parameters or the function have no meaning
 abbrev pub MethodBroken : ExternKind → List ℕ → Meaning → Error → Body → List ResourceMethod → ResourceMethod → Type 0
 MethodBroken side resource entry e old before (ResourceMethod.constructor c) =
-    IsSecondConstructor side resource old c.span e
+    IsRepeated (externs side old) (constructor_name resource) (duplicate_resource_constructor resource c.span) e
     ⊎ (IsFresh (constructor_name resource) (externs side old) × ParamsBroken funcs.Constructor old.scope [] c.params e)
 MethodBroken side resource entry e old before (ResourceMethod.method x) =
     IsSecondMethod side resource old x.id e
@@ -190,8 +185,8 @@ help_unless (Some x) = None
 
 -- the name here is among the externs already
 abbrev pub IsUseConflict : ExternKind → Body → UseItem → Error → Type 0
-IsUseConflict side old x e = (m : Meaning) × StandsFor (externs side old) (used_as x).string m
-    × (e ≡ use_conflict side (used_as x).string (used_as x).span (help_unless x.as_id))
+IsUseConflict side old x e = IsRepeated (externs side old) (used_as x).string
+    (use_conflict side (used_as x).string (used_as x).span (help_unless x.as_id)) e
 
 abbrev pub UseItemBroken : ExternKind → Meaning → List ℕ → Error → Body → List UseItem → UseItem → Type 0
 UseItemBroken side interface path e old before x = IsNoTypeThere interface path x e

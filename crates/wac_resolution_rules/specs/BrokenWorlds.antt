@@ -19,7 +19,7 @@ use Rattle.wac_resolution_rules.specs.Worlds.{IsFuncRef, HasInterfaceItem, IsInt
 use Rattle.wac_resolution_rules.specs.TypeStatements.{declared_id}
 use Rattle.wac_resolution_rules.specs.Declarations.{IsTypeDecl}
 use Rattle.wac_resolution_rules.specs.Composition.{Composition, root_scope}
-use Rattle.wac_resolution_rules.specs.BrokenTypes.{IsUndefined, FuncBroken}
+use Rattle.wac_resolution_rules.specs.BrokenTypes.{IsUndefined, DenotesNo, IsRepeated, IsTaken, FuncBroken}
 use Rattle.wac_resolution_rules.specs.BrokenDeclarations.{TypeDeclBroken}
 use Rattle.wac_resolution_rules.specs.BrokenBodies.{Owner, of_interface, of_world, PathBroken, IsConflict, ItemBroken, UseBroken, IsNoInterface}
 use Rattle.wac_resolution_rules.specs.Spans.{identifier_of}
@@ -27,14 +27,10 @@ use Rattle.wac_resolution_rules.specs.Places.{Places, bound_in_interface, bound_
 
 -- ---- interfaces
 
--- what the identifier denotes is neither a function nor a function type
-abbrev pub IsNoFunc : Scope → Ident → Error → Type 0
-IsNoFunc scope x e = (k : Meaning) × StandsFor scope x.string k × IsNoneOf is_func_form k
-    × (e ≡ not_func_type x.string (described k) x.span)
-
 abbrev pub FuncRefBroken : Scope → FuncTypeRef → Error → Type 0
 FuncRefBroken scope (FuncTypeRef.func f) e = FuncBroken funcs.Free scope [] f e
-FuncRefBroken scope (FuncTypeRef.ident x) e = IsUndefined scope x e ⊎ IsNoFunc scope x e
+FuncRefBroken scope (FuncTypeRef.ident x) e = IsUndefined scope x e
+    ⊎ DenotesNo is_func_form not_func_type scope x e
 
 abbrev pub InterfaceItemBroken : Context → Scope → Owner → Error → Body → List InterfaceItem → InterfaceItem → Type 0
 InterfaceItemBroken context root of e old before (InterfaceItem.use_statement u) =
@@ -51,14 +47,9 @@ InterfaceBroken context root name n items e =
 
 -- ---- items of worlds
 
--- what the identifier denotes is neither a function type nor an interface
-abbrev pub IsNoFuncOrInterface : Scope → Ident → Error → Type 0
-IsNoFuncOrInterface scope x e = (k : Meaning) × StandsFor scope x.string k × IsNoneOf is_func_or_interface_form k
-    × (e ≡ not_func_or_interface x.string (described k) x.span)
-
 abbrev pub ExternTypeBroken : Context → Scope → Scope → ℕ → ExternType → Error → Type 0
 ExternTypeBroken context root scope n (ExternType.ident x) e = IsUndefined (scope ++ root) x e
-    ⊎ IsNoFuncOrInterface (scope ++ root) x e
+    ⊎ DenotesNo is_func_or_interface_form not_func_or_interface (scope ++ root) x e
 ExternTypeBroken context root scope n (ExternType.func f) e = FuncBroken funcs.Free scope [] f e
 ExternTypeBroken context root scope n (ExternType.interface i) e = InterfaceBroken context root None n i.items e
 
@@ -89,8 +80,8 @@ WorldItemBroken context root of e old before (WorldItem.ty d) =
 
 -- an earlier entry renames the same name
 abbrev pub IsSecondEntry : Error → Entries → List WorldIncludeItem → WorldIncludeItem → Type 0
-IsSecondEntry e old before x = (to : List ℕ) × StandsFor old x.from.string to
-    × (e ≡ duplicate_world_include_name x.from.string x.from.span)
+IsSecondEntry e old before x =
+    IsRepeated old x.from.string (duplicate_world_include_name x.from.string x.from.span) e
 
 abbrev pub WorldRefBroken : Context → Scope → WorldRef → Error → Type 0
 WorldRefBroken context root (WorldRef.path p) e = PathBroken context root p e
@@ -164,13 +155,11 @@ WorldBroken context root name n items e =
 
 -- the name was exported
 abbrev pub IsExported : Composition → Places → Ident → Error → Type 0
-IsExported old places x e = (n : ℕ) × (at : Span) × StandsFor old.exports x.string n
-    × StandsFor places.exported x.string at × (e ≡ declaration_conflict x.string x.span at)
+IsExported old places x e = IsTaken old.exports places.exported x.string (declaration_conflict x.string x.span) e
 
 -- the identifier is bound at root already
 abbrev pub IsBound : Composition → Places → Ident → Error → Type 0
-IsBound old places x e = (n : ℕ) × (previous : Span) × StandsFor old.declared x.string n
-    × StandsFor places.bound x.string previous × (e ≡ duplicate_name x.string x.span previous)
+IsBound old places x e = IsTaken old.declared places.bound x.string (duplicate_name x.string x.span) e
 
 abbrev pub DefinitionBroken : Composition → Places → Ident → Error → Type 0
 DefinitionBroken old places x e = IsExported old places x e ⊎ (IsFresh x.string old.exports × IsBound old places x e)
