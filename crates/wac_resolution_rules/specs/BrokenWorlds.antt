@@ -14,7 +14,7 @@ use Rattle.wac_ast_grammar.specs.Spans.{world_ref_name, world_ref_span}
 use Rattle.wac_resolution_errors.specs.Error.{Error, not_func_or_interface, duplicate_world_include_name, not_world, missing_world_include, world_include_conflict, not_func_type, declaration_conflict, duplicate_name}
 use Rattle.wac_resolution_rules.specs.Paths.{Context, LeadsTo, WorldNames}
 use Rattle.wac_resolution_rules.specs.Bodies.{Body, empty_body, externs}
-use Rattle.wac_resolution_rules.specs.Includes.{Entries, HasEntry, has_colon, Taking, name_taken, Takes, HasInclude}
+use Rattle.wac_resolution_rules.specs.Includes.{Entries, HasEntry, has_colon, Taking, taking, name_taken, Takes, HasInclude}
 use Rattle.wac_resolution_rules.specs.Worlds.{IsFuncRef, HasInterfaceItem, IsInterface, id_or_empty, HasWorldItem, includes_of, IsWorld}
 use Rattle.wac_resolution_rules.specs.TypeStatements.{declared_id}
 use Rattle.wac_resolution_rules.specs.Declarations.{IsTypeDecl}
@@ -128,13 +128,10 @@ IsLeftOver x (left ∷ more) e = (i : WorldIncludeItem) × (entry_named left.0 x
 -- taking over the names of a world
 abbrev pub TakingBroken : WorldInclude → List ℕ → Entries → Meaning → Body → Error → Type 0
 TakingBroken x world entries entry old e =
-    Fails Takes (IsIncludeConflict x world sides.Import e) (record { entries = entries; there = old.imports })
-    (imports_of entry)
-    ⊎ ((a : Taking) × Steps Takes (record { entries = entries; there = old.imports }) (imports_of entry) a
-    × (Fails Takes (IsIncludeConflict x world sides.Export e) (record { entries = a.entries; there = old.exports })
-    (exports_of entry)
-    ⊎ ((b : Taking) × Steps Takes (record { entries = a.entries; there = old.exports }) (exports_of entry) b
-    × IsLeftOver x b.entries e)))
+    Fails Takes (IsIncludeConflict x world sides.Import e) (taking entries old.imports) (imports_of entry)
+    ⊎ ((a : Taking) × Steps Takes (taking entries old.imports) (imports_of entry) a
+    × (Fails Takes (IsIncludeConflict x world sides.Export e) (taking a.entries old.exports) (exports_of entry)
+    ⊎ ((b : Taking) × Steps Takes (taking a.entries old.exports) (exports_of entry) b × IsLeftOver x b.entries e)))
 
 abbrev pub IncludeBroken : Context → Scope → List ℕ → Error → Body → List WorldInclude → WorldInclude → Type 0
 IncludeBroken context root world e old before x =
