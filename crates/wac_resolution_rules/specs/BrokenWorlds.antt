@@ -15,14 +15,12 @@ use Rattle.wac_resolution_errors.specs.Error.{Error, not_func_or_interface, dupl
 use Rattle.wac_resolution_rules.specs.Paths.{Context, LeadsTo, WorldNames}
 use Rattle.wac_resolution_rules.specs.Bodies.{Body, empty_body, externs}
 use Rattle.wac_resolution_rules.specs.Includes.{Entries, HasEntry, has_colon, Taking, taking, name_taken, Takes, HasInclude}
-use Rattle.wac_resolution_rules.specs.Worlds.{IsFuncRef, HasInterfaceItem, IsInterface, id_or_empty, HasWorldItem, includes_of, IsWorld}
-use Rattle.wac_resolution_rules.specs.TypeStatements.{declared_id}
-use Rattle.wac_resolution_rules.specs.Declarations.{IsTypeDecl}
+use Rattle.wac_resolution_rules.specs.Worlds.{IsFuncRef, HasInterfaceItem, id_or_empty, HasWorldItem, includes_of}
+use Rattle.wac_resolution_rules.specs.TypeStatements.{identifier_of, DeclaresKind}
 use Rattle.wac_resolution_rules.specs.Composition.{Composition, root_scope}
 use Rattle.wac_resolution_rules.specs.BrokenTypes.{IsUndefined, DenotesNo, IsRepeated, IsTaken, FuncBroken}
 use Rattle.wac_resolution_rules.specs.BrokenDeclarations.{TypeDeclBroken}
 use Rattle.wac_resolution_rules.specs.BrokenBodies.{Owner, of_interface, of_world, PathBroken, IsConflict, ItemBroken, UseBroken, IsNoInterface}
-use Rattle.wac_resolution_rules.specs.Spans.{identifier_of}
 use Rattle.wac_resolution_rules.specs.Places.{Places, bound_in_interface, bound_in_world}
 
 -- ---- interfaces
@@ -169,15 +167,7 @@ KindBroken context old (TypeStatement.world d) e =
     WorldBroken context (root_scope old) d.id.string old.resources d.items e
 KindBroken context old (TypeStatement.ty d) e = TypeDeclBroken (root_scope old) old.resources d e
 
--- the declared type has a meaning
-abbrev pub HasKind : Context → Composition → TypeStatement → Type 0
-HasKind context old (TypeStatement.interface d) = (entry : Meaning) × (n : ℕ)
-    × IsInterface context (root_scope old) old.resources (declared_id context d.id.string) d.items entry n
-HasKind context old (TypeStatement.world d) = (entry : Meaning) × (n : ℕ)
-    × IsWorld context (root_scope old) old.resources (declared_id context d.id.string) d.items entry n
-HasKind context old (TypeStatement.ty d) = (m : Meaning) × (n : ℕ) × IsTypeDecl (root_scope old) old.resources d m n
-
 -- a type statement breaks the rule that the error names
 abbrev pub DeclarationBroken : Context → Composition → Places → TypeStatement → Error → Type 0
 DeclarationBroken context old places s e = KindBroken context old s e
-    ⊎ (HasKind context old s × DefinitionBroken old places (identifier_of s) e)
+    ⊎ ((m : Meaning) × (n : ℕ) × DeclaresKind context old s m n × DefinitionBroken old places (identifier_of s) e)

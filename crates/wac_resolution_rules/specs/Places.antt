@@ -5,7 +5,8 @@ use Rattle.wac_lexer.specs.Span.{Span}
 use Rattle.wac_graph_types.specs.Scope.{Named}
 use Rattle.wac_ast_grammar.specs.Tree.{Ident, UseItem, InterfaceItem, WorldItem, Statement}
 use Rattle.wac_resolution_rules.specs.Bodies.{used_as}
-use Rattle.wac_resolution_rules.specs.Spans.{item_identifier, identifier_of, import_span, export_span}
+use Rattle.wac_resolution_rules.specs.TypeStatements.{identifier_of}
+use Rattle.wac_resolution_rules.specs.Spans.{item_identifier, import_span, export_span}
 use Rattle.wac_resolution_rules.specs.Given.{Given}
 use Rattle.wac_resolution_rules.specs.Composition.{Composition}
 use Rattle.wac_resolution_rules.specs.Nodes.{imports}
