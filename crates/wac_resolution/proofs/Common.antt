@@ -54,7 +54,7 @@ pub use Rattle.wac_resolution_rules.specs.Places.{Leads, Placed, Places, more_at
 pub use Rattle.wac_resolution_rules.specs.ResolvedDocument.{DescribeAlike, Describes, FirstClause, FirstFailing, GraphClause, OnlyClause, given_to}
 pub use Rattle.wac_resolution_rules.specs.Spans.{import_span}
 pub use Rattle.wac_resolution_rules.specs.Statements.{Composes, Imports, name_imported}
-pub use Rattle.wac_resolution_rules.specs.TypeStatements.{Declares, DeclaresKind, Defines, declared_id, defining, identifier_of}
+pub use Rattle.wac_resolution_rules.specs.TypeStatements.{Defines, declared_id, defining, identifier_of}
 pub use Rattle.wac_resolution_rules.specs.Worlds.{IsInterface, IsWorld}
 pub use Rattle.wac_resolution_state.proofs.Scopes.{memory_told}
 pub use Rattle.wac_resolution_state.specs.Bindings.{Bindings, places_of, values_of}
