@@ -35,15 +35,9 @@ IsUnknownPathPackage context p e = (package_of (key_of_path p) context.packages 
 abbrev pub StandsAt : PackagePath → ℕ → List ℕ → Span → Type 0
 StandsAt p n segment at = slice_get (segment_spans p) n ≡ Some (segment, at)
 
--- the first segment of a path of the document's own package is undefined
-abbrev pub IsUndefinedSegment : Scope → PackagePath → List ℕ → Error → Type 0
-IsUndefinedSegment root p first e = (at : Span) × IsFresh first root × StandsAt p 0 first at
-    × (e ≡ undefined_name first at)
-
--- the package does not define the first segment
-abbrev pub IsNoDefinition : Named Meaning → PackagePath → List ℕ → Error → Type 0
-IsNoDefinition definitions p first e = (at : Span) × IsFresh first definitions × StandsAt p 0 first at
-    × (e ≡ package_missing_export None [] p.name first at)
+-- the first segment of a path is none of the names among which it begins
+abbrev pub IsNoBeginning : Named Meaning → PackagePath → List ℕ → (Span → Error) → Error → Type 0
+IsNoBeginning names p first error e = (at : Span) × IsFresh first names × StandsAt p 0 first at × (e ≡ error at)
 
 -- the last of some names
 abbrev pub last_of : List ℕ → List (List ℕ) → List ℕ
@@ -64,12 +58,13 @@ IsNoPackageExport p first e k before segment = (at : Span) × (export_of k segme
 
 abbrev pub OwnPathBroken : Scope → PackagePath → List (List ℕ) → Error → Type 0
 OwnPathBroken root p [] e = ⊥
-OwnPathBroken root p (first ∷ rest) e = IsUndefinedSegment root p first e
+OwnPathBroken root p (first ∷ rest) e = IsNoBeginning root p first (undefined_name first) e
     ⊎ ((k : Meaning) × StandsFor root first k × Fails IsMember (IsNoExport p first e) k rest)
 
 abbrev pub ForeignPathBroken : Named Meaning → PackagePath → List (List ℕ) → Error → Type 0
 ForeignPathBroken definitions p [] e = ⊥
-ForeignPathBroken definitions p (first ∷ rest) e = IsNoDefinition definitions p first e
+ForeignPathBroken definitions p (first ∷ rest) e =
+    IsNoBeginning definitions p first (package_missing_export None [] p.name first) e
     ⊎ ((k : Meaning) × StandsFor definitions first k × Fails IsMember (IsNoPackageExport p first e) k rest)
 
 abbrev pub path_broken : Bool → Context → Scope → PackagePath → Error → Type 0

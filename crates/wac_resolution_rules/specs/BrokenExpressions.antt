@@ -57,12 +57,11 @@ pub record IsNoMatch (imports : Named Meaning) (g : Giving) (node : ℕ) (span :
 
 -- where the argument for a name is: the argument itself, else the first spread whose instance exports the name
 abbrev pub argument_place : Composition → Named Meaning → InstantiationArgument → Named Span
-argument_place c imports (InstantiationArgument.fill span) = []
-argument_place c imports (InstantiationArgument.spread id) = []
 argument_place c imports (InstantiationArgument.named name x) = (name_meant name imports, argument_name_span name) ∷ []
 argument_place c imports
     (InstantiationArgument.inferred id) = elim (option_and_then (node_at c) (look_up id.string c.declared))
     [ None ↦ [] | Some n ↦ (name_inferred imports id.string n, id.span) ∷ [] ]
+argument_place c imports _ = []
 
 abbrev pub own_places : Composition → Named Meaning → Arguments → Named Span
 own_places c imports Arguments.none = []
