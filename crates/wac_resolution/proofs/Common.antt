@@ -45,16 +45,16 @@ pub use Rattle.wac_resolution_paths.specs.Expands.{AllSupplied, Found, IsSupplie
 pub use Rattle.wac_resolution_paths.specs.declared.context.Context.{Context}
 pub use Rattle.wac_resolution_rules.proofs.FirstFailing.{describes_once, fails_at, fails_at_target, first_has_none, leads_composes}
 pub use Rattle.wac_resolution_rules.specs.BrokenStatements.{ImportNameBroken, StatementBroken}
-pub use Rattle.wac_resolution_rules.specs.BrokenWorlds.{DefinitionBroken, HasKind, InterfaceBroken, KindBroken, WorldBroken}
+pub use Rattle.wac_resolution_rules.specs.BrokenWorlds.{DefinitionBroken, InterfaceBroken, KindBroken, WorldBroken}
 pub use Rattle.wac_resolution_rules.specs.Composition.{Composition, Node, binding, definition, first_name, imported, named_at, root_scope, start, with_node, with_resources}
 pub use Rattle.wac_resolution_rules.specs.Given.{Given, Rules, rules_of}
 pub use Rattle.wac_resolution_rules.specs.Mentions.{IsMentioned, Mention, given_over, is_mentioned, kept, mentions}
 pub use Rattle.wac_resolution_rules.specs.Nodes.{import_of, imports, next_of}
 pub use Rattle.wac_resolution_rules.specs.Places.{Leads, Placed, Places, more_at, placed_start, places_after}
 pub use Rattle.wac_resolution_rules.specs.ResolvedDocument.{DescribeAlike, Describes, FirstClause, FirstFailing, GraphClause, OnlyClause, given_to}
-pub use Rattle.wac_resolution_rules.specs.Spans.{identifier_of, import_span}
+pub use Rattle.wac_resolution_rules.specs.Spans.{import_span}
 pub use Rattle.wac_resolution_rules.specs.Statements.{Composes, Imports, name_imported}
-pub use Rattle.wac_resolution_rules.specs.TypeStatements.{Declares, Defines, declared_id, defining}
+pub use Rattle.wac_resolution_rules.specs.TypeStatements.{Defines, declared_id, defining, identifier_of}
 pub use Rattle.wac_resolution_rules.specs.Worlds.{IsInterface, IsWorld}
 pub use Rattle.wac_resolution_state.proofs.Scopes.{memory_told}
 pub use Rattle.wac_resolution_state.specs.Bindings.{Bindings, places_of, values_of}

@@ -1,22 +1,9 @@
 -- Type statements take one composition to the next.
-use Rattle.wac_resolution.proofs.Common.{◌≡◌, ◌∙◌, ℕ, zero, suc, List, [], ◌∷◌, ◌++◌, Option, None, inl, inr, refl, sym, ap, subst, append-nil, filter_map, cons_option, Span, TypeStatement, ItemKind, Meaning, PackageParts, Named, with_named, Parts, means, declared_count, Naming, Key, all_implies, Error, DefinitionBroken, KindBroken, HasKind, Composition, Node, definition, named_at, Rules, import_of, imports, next_of, Places, more_at, places_after, identifier_of, Defines, defining, Declares, Root, composed, Context, IsSuppliedAs, AllSupplied, packages_in, context_of, Externs, places_in, IsDefined, Stand, StatementRun, Breaks, composed_kept}
+use Rattle.wac_resolution.proofs.Common.{◌≡◌, ◌∙◌, ℕ, zero, suc, List, [], ◌∷◌, ◌++◌, Option, None, inl, inr, refl, sym, ap, subst, append-nil, filter_map, cons_option, Span, TypeStatement, ItemKind, Meaning, PackageParts, Named, with_named, Parts, means, declared_count, Naming, Key, all_implies, Error, DefinitionBroken, KindBroken, Composition, Node, definition, named_at, Rules, import_of, imports, next_of, Places, more_at, places_after, identifier_of, Defines, defining, Root, composed, Context, IsSuppliedAs, AllSupplied, packages_in, context_of, Externs, places_in, IsDefined, Stand, StatementRun, Breaks, composed_kept}
 use Rattle.wac_ast_grammar.specs.Tree.{Statement}
-use Rattle.wac_resolution_rules.specs.Paths as rules
 use Rattle.wac_resolution_rules.proofs.Prefixes.{named_at_suc}
 use Rattle.wac_resolution_externs.specs.Exports.{GrowsExports}
-use Rattle.wac_resolution.specs.Definitions.{DeclaresKind, KindDeclared}
-
--- ---- the judgement
-
-declares : (context : rules.Context) (old new : Composition) (s : TypeStatement) (m : Meaning) (n : ℕ) → DeclaresKind context old s m n → Defines old (identifier_of s).string m n new → Declares context old s new
-declares context old new (TypeStatement.interface d) m n k h = (k.0, n, k.1, subst (λ (x : Meaning). Defines old d.id.string x n new) k.2 h)
-declares context old new (TypeStatement.world d) m n k h = (k.0, n, k.1, subst (λ (x : Meaning). Defines old d.id.string x n new) k.2 h)
-declares context old new (TypeStatement.ty d) m n k h = (m, n, k, h)
-
-has_kind : (context : rules.Context) (old : Composition) (s : TypeStatement) (m : Meaning) (n : ℕ) → DeclaresKind context old s m n → HasKind context old s
-has_kind context old (TypeStatement.interface d) m n k = (k.0, n, k.1)
-has_kind context old (TypeStatement.world d) m n k = (k.0, n, k.1)
-has_kind context old (TypeStatement.ty d) m n k = (m, n, k)
+use Rattle.wac_resolution.specs.Definitions.{KindDeclared}
 
 -- ---- places
 
@@ -73,7 +60,7 @@ went context old mid new before after x y s k stand kind h rules = record {
   leads = λ naming one.
       let defines : Defines (composed naming old before) (identifier_of s).string (means naming mid k) (declared_count mid) (composed naming new after) =
       subst (λ (c : Composition). Defines c (identifier_of s).string (means naming mid k) (declared_count mid) (composed naming new after)) (composed_kept old mid before naming kind.grows stand.agrees) (h.defines naming) in (
-        declares (context_of naming context) (composed naming old before) (composed naming new after) s (means naming mid k) (declared_count mid) (kind.is naming) defines,
+        (means naming mid k, declared_count mid, kind.is naming, defines),
         places_defined (composed naming old before) (composed naming new after) (places_in before x) (places_in after y) s (means naming mid k) (declared_count mid) defines.2 h.bound h.imported h.exported,
       );
 }
@@ -87,6 +74,8 @@ kind_breaks context g root x s e h rules naming one = inl (h naming)
 pub definition_breaks : (context : Context) (old mid : Parts) (root : Root) (x : Externs) (s : TypeStatement) (k : ItemKind) (e : Error) → Stand context old root x → KindDeclared context old mid root s k
     → ((naming : Naming) → DefinitionBroken (composed naming mid root) (places_in root x) (identifier_of s) e) → (rules : Rules) → Breaks context rules old root x (Statement.type_statement s) e
 definition_breaks context old mid root x s k e stand kind h rules naming one = inr (
-  has_kind (context_of naming context) (composed naming old root) s (means naming mid k) (declared_count mid) (kind.is naming),
+  means naming mid k,
+  declared_count mid,
+  kind.is naming,
   subst (λ (c : Composition). DefinitionBroken c (places_in root x) (identifier_of s) e) (composed_kept old mid root naming kind.grows stand.agrees) (h naming),
 )

@@ -7,7 +7,7 @@ ghost use Rattle.wac_graph.specs.Origin.{Naming};
 ghost use Rattle.wac_resolution_rules.specs.BrokenWorlds.{KindBroken};
 ghost use Rattle.wac_resolution_rules.specs.Errors.{ErrorSays};
 ghost use Rattle.wac_resolution_rules.specs.Given.{Rules};
-ghost use Rattle.wac_resolution_rules.specs.Spans.{identifier_of};
+ghost use Rattle.wac_resolution_rules.specs.TypeStatements.{identifier_of};
 ghost use Rattle.wac_resolution_nodes.specs.Root.{composed, Agrees};
 ghost use Rattle.wac_resolution_paths.specs.Expands.{AllSupplied};
 ghost use Rattle.wac_resolution_paths.specs.Context.{packages_in, context_of};

@@ -37,7 +37,8 @@ pub use Rattle.wac_resolution_nodes.specs.declared.root.Root.{Root}
 pub use Rattle.wac_resolution_paths.specs.Context.{packages_in}
 pub use Rattle.wac_resolution_paths.specs.Expands.{AllSupplied, Expands, IsSuppliedAs}
 pub use Rattle.wac_resolution_paths.specs.declared.context.Context.{Context}
-pub use Rattle.wac_resolution_rules.specs.BrokenStatements.{ExportOptionsBroken, ImportNameBroken, IsImportedAlready, IsInvalidName, help_unless}
+pub use Rattle.wac_resolution_rules.specs.BrokenBodies.{help_unless}
+pub use Rattle.wac_resolution_rules.specs.BrokenStatements.{ExportOptionsBroken, ImportNameBroken, IsImportedAlready, IsInvalidName}
 pub use Rattle.wac_resolution_rules.specs.BrokenWorlds.{IsBound, IsExported}
 pub use Rattle.wac_resolution_rules.specs.Composition.{Composition, binding, definition, imported, root_scope, with_export, with_node, with_resources}
 pub use Rattle.wac_resolution_rules.specs.Expressions.{at}

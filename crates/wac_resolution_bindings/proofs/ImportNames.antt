@@ -38,13 +38,7 @@ pub imported_already : (g : Parts) (x : Externs) (name : List ℕ) (span : Span)
 imported_already g x name span help previous e placed sound is told naming declared all same =
     let there = stands_too name (imported_in x) g.imports previous placed.imported is in
     let node = some_there (look_up name (imports (composition_of naming g declared))) (imported_where naming g declared name sound ∙ ap (λ (o : Option ℕ). is_some o) there.1) in
-    record {
-      kind = node.0;
-      previous = previous;
-      imported = node.1;
-      place = ap (look_up name) same ∙ is;
-      error = told;
-    }
+    (node.0, previous, node.1, ap (look_up name) same ∙ is, told)
 
 -- ---- ids of worlds
 

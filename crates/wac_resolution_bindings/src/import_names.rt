@@ -5,7 +5,7 @@ ghost use Rattle.wac_ast_base.specs.Names.{ident_of};
 ghost use Rattle.wac_ast_worlds.specs.Worlds.{import_type_of, import_statement_of};
 ghost use Rattle.wac_graph.specs.Means.{means};
 ghost use Rattle.wac_graph.specs.Origin.{Naming};
-ghost use Rattle.wac_resolution_rules.specs.BrokenStatements.{help_unless};
+ghost use Rattle.wac_resolution_rules.specs.BrokenBodies.{help_unless};
 ghost use Rattle.wac_resolution_rules.specs.Spans as spans;
 ghost use Rattle.wac_resolution_rules.specs.Statements as rules;
 ghost use Rattle.wac_resolution_nodes.specs.Instances.{written_id};

@@ -11,10 +11,11 @@ ghost use Rattle.wac_ast_types.specs.Declarations.{constructor_of, method_of, re
 ghost use Rattle.wac_graph.specs.Graph.{Parts};
 ghost use Rattle.wac_graph.specs.Means.{entry_means};
 ghost use Rattle.wac_graph.specs.Origin.{Naming};
-ghost use Rattle.wac_resolution_errors.specs.Error.{duplicate_resource_method};
+ghost use Rattle.wac_resolution_errors.specs.Error.{duplicate_resource_constructor, duplicate_resource_method};
 ghost use Rattle.wac_resolution_errors.specs.Told.{told};
-ghost use Rattle.wac_resolution_rules.specs.Bodies.{constructor_name as named_constructor, method_name as named_method, static_name as named_static, name_of_method, HasMethod};
-ghost use Rattle.wac_resolution_rules.specs.BrokenBodies.{IsSecondConstructor, IsSecondMethod, MethodBroken};
+ghost use Rattle.wac_resolution_rules.specs.Bodies.{constructor_name as named_constructor, externs, method_name as named_method, static_name as named_static, name_of_method, HasMethod};
+ghost use Rattle.wac_resolution_rules.specs.BrokenTypes.{IsRepeated};
+ghost use Rattle.wac_resolution_rules.specs.BrokenBodies.{IsSecondMethod, MethodBroken};
 ghost use Rattle.wac_resolution_rules.specs.Errors.{ErrorSays};
 ghost use Rattle.wac_resolution_bodies.specs.Lists.{lists_of, kinds_of};
 ghost use Rattle.wac_resolution_bodies.specs.Bodies.{body_of, IsBody, MethodStep, MethodSteps};
@@ -49,7 +50,8 @@ fn new_constructor_name(
     ensures name { IfOk result (λ n. string_bytes n ≡ named_constructor resource.now) }
     ensures ok { IfOk result (λ n. IsFresh (named_constructor resource.now) (kinds_of side (lists_of body.now))) }
     ensures err { ErrorSays result (λ e. (naming : Naming) (g : Parts)
-        → IsSecondConstructor side resource.now (body_of naming g body.now) span e) }
+        → IsRepeated (externs side (body_of naming g body.now)) (named_constructor resource.now)
+        (duplicate_resource_constructor resource.now span) e) }
 {
     let name = constructor_name(alloc, resource)?;
     match body.find(side, &name) {

@@ -131,7 +131,7 @@ pub exported_already : (g : Parts) (x : Externs) (name : List ℕ) (span : Span)
     → (naming : Naming) (declared : Named ℕ) (all : Places) → all.exported ≡ exported_in x → IsExportedAlready (composition_of naming g declared) all name span help e
 exported_already g x name span help previous e placed is told naming declared all same =
     let there = stands_too name (exported_in x) g.exports previous placed.exported is in
-    record { node = there.0; previous = previous; exported = there.1; place = ap (look_up name) same ∙ is; error = told }
+    (there.0, previous, there.1, ap (look_up name) same ∙ is, told)
 
 pub unexported_yet : (g : Parts) (x : Externs) (name : List ℕ) → ArePlaced g x → look_up name (exported_in x) ≡ None → IsFresh name g.exports
 unexported_yet g x name placed is = fresh_too name (exported_in x) g.exports placed.exported is

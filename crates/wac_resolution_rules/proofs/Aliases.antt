@@ -5,7 +5,7 @@ use Rattle.wac_resolution_rules.specs.Composition.{NodeForm, imported, definitio
 use Rattle.wac_resolution_rules.specs.Nodes.{is_alias_of, alias_in, with_alias, next_of}
 use Rattle.wac_resolution_rules.specs.Statements.{name_imported, StatementStep, Composes}
 use Rattle.wac_resolution_rules.specs.Sound.{IsAlias, is_same_alias, AliasesOnce}
-use Rattle.wac_resolution_rules.specs.Spans.{identifier_of}
+use Rattle.wac_resolution_rules.specs.TypeStatements.{identifier_of}
 use Rattle.wac_resolution_rules.proofs.StatementsStop.{declares_what}
 use Rattle.wac_resolution_rules.proofs.ExpressionsKeep.{Keeps, keeps_stands, keeps_by}
 use Rattle.wac_resolution_rules.proofs.Prefixes.{named_at_suc, all_to}

@@ -7,14 +7,13 @@ use Rattle.wac_resolution_rules.specs.Paths.{Context, key_of_path, segments_of}
 use Rattle.wac_resolution_rules.specs.Bodies.{Body, empty_body, UsesItem}
 use Rattle.wac_resolution_rules.specs.Includes.{Entries, HasEntry, HasInclude}
 use Rattle.wac_resolution_rules.specs.Worlds.{HasInterfaceItem, HasWorldItem, includes_of}
-use Rattle.wac_resolution_rules.specs.TypeStatements.{declared_id}
 use Rattle.wac_resolution_rules.specs.Places.{Places}
 use Rattle.wac_resolution_rules.specs.BrokenBodies.{Owner, of_interface, of_world, path_broken, ForeignPathBroken, PathBroken, UsePathBroken, IsNoInterface, UseItemBroken, UseBroken}
-use Rattle.wac_resolution_rules.specs.BrokenWorlds.{InterfaceItemBroken, InterfaceBroken, ExternTypeBroken, InstanceBroken, ExternBroken, WorldItemBroken, IsSecondEntry, WorldRefBroken, IsNoWorld, TakingBroken, IncludeBroken, WorldBroken, KindBroken, HasKind, DeclarationBroken}
+use Rattle.wac_resolution_rules.specs.BrokenWorlds.{InterfaceItemBroken, InterfaceBroken, ExternTypeBroken, InstanceBroken, ExternBroken, WorldItemBroken, IsSecondEntry, WorldRefBroken, IsNoWorld, TakingBroken, IncludeBroken, WorldBroken, KindBroken, DeclarationBroken}
 use Rattle.wac_resolution_rules.specs.Mentions.{Mention, path_mentions, use_path_mentions, interface_item_mentions, interface_mentions, extern_type_mentions, extern_mentions, world_ref_mentions, world_item_mentions, type_mentions, Agree, over}
 use Rattle.wac_resolution_rules.specs.Spans.{use_path_name, use_path_span}
 use Rattle.wac_resolution_rules.proofs.StatementsStop.{all_append}
-use Rattle.wac_resolution_rules.proofs.TypesMention.{along, same, agree_prefix, steps_agree, path_agrees, use_path_agrees, interface_item_agrees, interface_agrees, world_item_agrees, world_ref_agrees, include_mentions, include_agrees, includes_agree, world_agrees}
+use Rattle.wac_resolution_rules.proofs.TypesMention.{along, same, agree_prefix, steps_agree, path_agrees, use_path_agrees, interface_item_agrees, world_item_agrees, world_ref_agrees, include_mentions, include_agrees, includes_agree, declared_agrees}
 
 -- ---- lists
 
@@ -130,12 +129,7 @@ kind_breaks s ps qs old (TypeStatement.interface d) e h b = interface_breaks s p
 kind_breaks s ps qs old (TypeStatement.world d) e h b = world_breaks s ps qs (root_scope old) d.id.string old.resources d.items e h b
 kind_breaks s ps qs old (TypeStatement.ty d) e h b = b
 
-has_kind_agrees : (s : Context) (ps qs : Packages) (old : Composition) (x : TypeStatement) → Agree ps qs (type_mentions s.own x) → HasKind (over s ps) old x ≡ HasKind (over s qs) old x
-has_kind_agrees s ps qs old (TypeStatement.interface d) h = λ i. (entry : Meaning) × (n : ℕ) × interface_agrees s ps qs (root_scope old) old.resources (declared_id s d.id.string) d.items h i entry n
-has_kind_agrees s ps qs old (TypeStatement.world d) h = λ i. (entry : Meaning) × (n : ℕ) × world_agrees s ps qs (root_scope old) old.resources (declared_id s d.id.string) d.items h i entry n
-has_kind_agrees s ps qs old (TypeStatement.ty d) h = refl
-
 pub declaration_breaks : (s : Context) (ps qs : Packages) (old : Composition) (places : Places) (x : TypeStatement) (e : Error) → Agree ps qs (type_mentions s.own x)
     → DeclarationBroken (over s ps) old places x e → DeclarationBroken (over s qs) old places x e
 declaration_breaks s ps qs old places x e h (inl b) = inl (kind_breaks s ps qs old x e h b)
-declaration_breaks s ps qs old places x e h (inr b) = inr (along (has_kind_agrees s ps qs old x h) b.0, b.1)
+declaration_breaks s ps qs old places x e h (inr (m, n, k, b)) = inr (m, n, along (λ i. declared_agrees s ps qs old x h i m n) k, b)

@@ -6,7 +6,7 @@ use Rattle.wac_resolution_rules.specs.Nodes.{import_of, imports, alias_in, with_
 use Rattle.wac_resolution_rules.specs.Expressions.{At, at, alias_at, Stands}
 use Rattle.wac_resolution_rules.specs.Statements.{name_imported, ExportsAs, ExportsOne, ExportsBy, StatementStep, Composes}
 use Rattle.wac_resolution_rules.specs.Sound.{OnceEach, NamesOnce}
-use Rattle.wac_resolution_rules.specs.Spans.{identifier_of}
+use Rattle.wac_resolution_rules.specs.TypeStatements.{identifier_of}
 use Rattle.wac_resolution_rules.proofs.StatementsStop.{declares_what}
 use Rattle.wac_resolution_rules.proofs.ExpressionsAdd.{Adds, stands_adds, alias_adds}
 use Rattle.wac_resolution_rules.proofs.ExpressionsKeep.{Keeps, keeps_stands}

@@ -5,7 +5,7 @@ use Rattle.wac_resolution_rules.specs.Composition.{Composition, Node, start}
 use Rattle.wac_resolution_rules.specs.Nodes.{import_of, import_name, imports}
 use Rattle.wac_resolution_rules.specs.Find.{names_of}
 use Rattle.wac_resolution_rules.specs.Sound.{IsKept, AreKept, Begins}
-use Rattle.wac_resolution_rules.specs.Places.{HavePlaces, Leads, Placed, Places, bound_at, exported_at, imported_at, more_at, names_at, placed_start, places_after}
+use Rattle.wac_resolution_rules.specs.Places.{HavePlaces, Leads, Placed, Places, bound_at, extern_at, more_at, names_at, placed_start, places_after}
 use Rattle.wac_resolution_rules.proofs.Names.{cons_append}
 use Rattle.wac_resolution_rules.proofs.Prefixes.{AreNamed, goes_continues}
 
@@ -47,8 +47,8 @@ begins_places old new p x b h =
     let r = imports_kept old.nodes new.nodes b.nodes in
     record {
       bound = placed_more (bound_at x) p.bound old.declared new.declared b.declared.0 h.bound b.declared.1;
-      imported = placed_more (imported_at x) p.imported (imports old) (imports new) r.0 h.imported r.1;
-      exported = placed_more (exported_at x) p.exported old.exports new.exports b.exports.0 h.exported b.exports.1;
+      imported = placed_more (extern_at x) p.imported (imports old) (imports new) r.0 h.imported r.1;
+      exported = placed_more (extern_at x) p.exported old.exports new.exports b.exports.0 h.exported b.exports.1;
     }
 
 leads_places : (s : Given) (xs : List Statement) (old new : Placed) → AreNamed old.composition → HavePlaces old.composition old.places → Steps (Leads s) old xs new → HavePlaces new.composition new.places

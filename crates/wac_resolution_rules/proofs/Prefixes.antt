@@ -6,9 +6,8 @@ use Rattle.wac_resolution_rules.specs.Composition.{NodeForm, imported, definitio
 use Rattle.wac_resolution_rules.specs.Nodes.{is_alias_of, alias_in, next_of}
 use Rattle.wac_resolution_rules.specs.Expressions.{At, at, accessed, alias_at, Accesses, nothing_given, spreads_of, Stands, PrimaryStands}
 use Rattle.wac_resolution_rules.specs.Statements.{name_imported, Imports, Lets, Exports, StatementStep, Composes, ExportsAs, ExportsOne, ExportsBy}
-use Rattle.wac_resolution_rules.specs.TypeStatements.{Declares}
+use Rattle.wac_resolution_rules.specs.TypeStatements.{identifier_of, Declares}
 use Rattle.wac_resolution_rules.specs.Sound.{IsAlias, IsKept, AreKept, Begins}
-use Rattle.wac_resolution_rules.specs.Spans.{identifier_of}
 use Rattle.wac_resolution_rules.proofs.ExpressionsAdd.{Adds, added, adds_more, stands_adds, gives_add, spreads_add, alias_adds}
 use Rattle.wac_resolution_rules.proofs.StepLaws.{steps_prefix}
 use Rattle.wac_resolution_rules.proofs.StatementsStop.{declares_what}

@@ -128,7 +128,7 @@ places_g = record { bound = (codes "g", span 20 1) ∷ []; imported = (codes "g"
 -- package a:b; import g: func(); import k as g: func();
 imported_twice : (naming : Naming) → StatementBroken (given_in naming []) with_g places_g (duplicate_extern_name externs.Import (codes "g") (span 43 1) (span 20 1) None)
     (Statement.import_statement (record { docs = []; id = ident (codes "k") 38 1; name = Some (ExternName.ident (ident (codes "g") 43 1)); ty = ImportType.func no_params }))
-imported_twice naming = inr (function, 0, (func_entry false [] [], ([], [], refl, refl, refl), refl, refl), inl (record { kind = function; previous = span 20 1; imported = refl; place = refl; error = refl }))
+imported_twice naming = inr (function, 0, (func_entry false [] [], ([], [], refl, refl, refl), refl, refl), inl (function, span 20 1, refl, refl, refl))
 
 -- rules that reject every name
 abbrev no_names : Naming → Reason → Given

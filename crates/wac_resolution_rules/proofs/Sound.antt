@@ -6,8 +6,7 @@ use Rattle.wac_resolution_rules.specs.Composition.{NodeForm, imported, definitio
 use Rattle.wac_resolution_rules.specs.Nodes.{alias_in, with_alias, next_of, key_of_node}
 use Rattle.wac_resolution_rules.specs.Expressions.{At, at, accessed, alias_at, Accesses, Giving, nothing_given, given_too, spread_step, Spreads, spreads_of, has_fill, Fits, Instantiates, Stands, PrimaryStands, Gives, GivesOne}
 use Rattle.wac_resolution_rules.specs.Statements.{name_imported, Imports, Lets, Exports, StatementStep, Composes, ExportsAs, ExportsOne, ExportsBy}
-use Rattle.wac_resolution_rules.specs.TypeStatements.{Declares}
-use Rattle.wac_resolution_rules.specs.Spans.{identifier_of}
+use Rattle.wac_resolution_rules.specs.TypeStatements.{identifier_of, Declares}
 use Rattle.wac_resolution_rules.specs.Sound.{OnceEach, IsAfterSource, ArgumentsFit, IsLinked, NamesNodes, IsSound}
 use Rattle.wac_resolution_rules.proofs.StatementsStop.{declares_what}
 use Rattle.wac_resolution_rules.proofs.Names.{once_with}

@@ -296,7 +296,7 @@ export_k_as_f = Statement.export_statement (record { docs = []; expr = Expr.expr
 
 -- 91+1, previous 61+1: duplicate export f
 pub export_is_repeated : (naming : Naming) → StatementBroken (given_in naming []) with_f_h places_f_h (duplicate_extern_name externs.Export (codes "f") (span 91 1) (span 61 1) None) export_k_as_f
-export_is_repeated naming = inr (record { composition = with_f_h; node = 1 }, (record { composition = with_f_h; node = 1 }, (1, refl, refl), refl), inr (refl, inl (record { node = 0; previous = span 61 1; exported = refl; place = refl; error = refl })))
+export_is_repeated naming = inr (record { composition = with_f_h; node = 1 }, (record { composition = with_f_h; node = 1 }, (1, refl, refl), refl), inr (refl, inl (0, span 61 1, refl, refl, refl)))
 
 -- ---- package a:b targets a:b/w; world w { export run: func(); }
 
@@ -322,7 +322,12 @@ body_run = record { scope = []; uses = []; imports = []; exports = (codes "run",
 pub world_composes : (naming : Naming) → Composes (given_in naming []) start (world_w ∷ []) with_w
 world_composes naming = (
   with_w,
-  (entry_w, 0, (body_run, body_run, (body_run, (refl, (function, 0, (func_entry false [] [], ([], [], refl, refl, refl), refl, refl), refl)), refl), refl, refl, refl), (refl, refl, refl)),
+  (
+    kind_of a_world entry_w,
+    0,
+    (entry_w, (body_run, body_run, (body_run, (refl, (function, 0, (func_entry false [] [], ([], [], refl, refl, refl), refl, refl), refl)), refl), refl, refl, refl), refl),
+    (refl, refl, refl),
+  ),
   refl,
 )
 

@@ -11,7 +11,7 @@ use Rattle.wac_resolution_rules.specs.Statements.{ImportsKind, name_imported, Ex
 use Rattle.wac_resolution_rules.specs.Target.{open_imports, ImportAllowed, ExportMet, MeetsTarget}
 use Rattle.wac_resolution_rules.specs.ResolvedDocument.{Describes}
 use Rattle.wac_resolution_rules.specs.Mentions.{Mention, name_mentions, expr_mentions, primary_mentions, arguments_mentions, argument_mentions, import_type_mentions, statement_mentions, target_mentions, mentions, Agree, given_over, kept, IsMentioned, KeyHolds, KeysHold}
-use Rattle.wac_resolution_rules.specs.Spans.{identifier_of}
+use Rattle.wac_resolution_rules.specs.TypeStatements.{identifier_of}
 use Rattle.wac_resolution_rules.proofs.StatementsStop.{all_append, all_prefix, declares_what}
 use Rattle.wac_resolution_rules.proofs.Prefixes.{named_at_suc}
 use Rattle.wac_resolution_rules.proofs.TypesMention.{along, agree_prefix, steps_agree, path_agrees, interface_agrees, declares_agrees}

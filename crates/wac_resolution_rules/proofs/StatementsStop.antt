@@ -1,8 +1,8 @@
 -- A statement that breaks a rule resolves to nothing, and a target that breaks one isn't met.
-use Rattle.wac_resolution_rules.proofs.Common.{◌≡◌, ◌≢◌, ℕ, List, [], ◌∷◌, ◌++◌, subst, Option, Some, None, map, inl, inr, flat_map, AllByRecursion, Span, ExternKind, Meaning, Named, look_up, IsFresh, an_interface, a_world, kind_of, exports_of, promoted, Steps, Ident, PackagePath, ImportType, ImportStatement, LetStatement, Expr, ExportOptions, ExportStatement, TypeStatement, Statement, Error, Operation}
+use Rattle.wac_resolution_rules.proofs.Common.{◌≡◌, ◌≢◌, ℕ, List, [], ◌∷◌, ◌++◌, subst, Option, Some, None, map, inl, inr, flat_map, AllByRecursion, Span, ExternKind, Meaning, Named, look_up, IsFresh, exports_of, promoted, Steps, Ident, PackagePath, ImportType, ImportStatement, LetStatement, Expr, ExportOptions, ExportStatement, TypeStatement, Statement, Error, Operation}
 use Rattle.wac_graph_types.specs.declared.kind.FuncKind.TheVariants as funcs
 use Rattle.wac_resolution_rules.specs.Paths.{Context}
-use Rattle.wac_resolution_rules.specs.TypeStatements.{Declares, Defines}
+use Rattle.wac_resolution_rules.specs.TypeStatements.{identifier_of, Declares, Defines}
 use Rattle.wac_resolution_rules.specs.Kinds.{world_of}
 use Rattle.wac_resolution_rules.specs.Given.{Given}
 use Rattle.wac_resolution_rules.specs.Composition.{Composition, Node, kind_at, root_scope}
@@ -11,7 +11,6 @@ use Rattle.wac_resolution_rules.specs.Expressions.{At}
 use Rattle.wac_resolution_rules.specs.Statements.{ImportsKind, name_imported, Imports, Lets, definition_bound, ExportsAs, unnamed_export, unexported, ExportsOne, ExportsBy, Exports, StatementStep}
 use Rattle.wac_resolution_rules.specs.Target.{allowed, open_imports, all_imports, ImportAllowed, ExportMet, IsAllowed, MeetsPath}
 use Rattle.wac_resolution_rules.specs.BrokenStatements.{IsImportedAlready, IsExportedAlready, IsInvalidName, IsExportConflict, IsUnnamed, IsNoEffect, IsNotWorld, placed_imports, IsNotInTarget, IsImportMismatch, IsMissingExport, IsExportMismatch, ImportKindBroken, ImportBroken, LetBroken, ExportAsBroken, ExportOneBroken, ExportOptionsBroken, ExportBroken, StatementBroken, TargetWorldBroken, TargetBroken}
-use Rattle.wac_resolution_rules.specs.Spans.{identifier_of}
 use Rattle.wac_resolution_rules.specs.Places.{Places, names_at}
 use Rattle.wac_resolution_rules.specs.BrokenWorlds.{IsBound}
 use Rattle.wac_resolution_rules.proofs.StepLaws.{fails_stop}
@@ -31,10 +30,10 @@ bound_stops : (c : Composition) (p : Places) (id : Ident) (e : Error) → IsBoun
 bound_stops c p id e u fresh = neither (look_up id.string c.declared) u.0 fresh u.2
 
 imported_stops : (c : Composition) (p : Places) (name : List ℕ) (span : Span) (help : Option (List ℕ)) (e : Error) → IsImportedAlready c p name span help e → IsFresh name (imports c) → ⊥
-imported_stops c p name span help e u fresh = neither (look_up name (imports c)) u.kind fresh u.imported
+imported_stops c p name span help e u fresh = neither (look_up name (imports c)) u.0 fresh u.2
 
 exported_stops : (c : Composition) (p : Places) (name : List ℕ) (span : Span) (help : Option (List ℕ)) (e : Error) → IsExportedAlready c p name span help e → IsFresh name c.exports → ⊥
-exported_stops c p name span help e u fresh = neither (look_up name c.exports) u.node fresh u.exported
+exported_stops c p name span help e u fresh = neither (look_up name c.exports) u.0 fresh u.2
 
 invalid_stops : (s : Given) (name : List ℕ) (kind : ExternKind) (span : Span) (e : Error) → IsInvalidName s name kind span e → s.rules.named name ≡ None → ⊥
 invalid_stops s name kind span e u h = neither (s.rules.named name) u.0 h u.1
@@ -106,9 +105,7 @@ export_stops s old p e x new (inr (a, stands, f)) g =
 
 -- a type statement defines its name
 pub declares_what : (s : Context) (old : Composition) (x : TypeStatement) (new : Composition) → Declares s old x new → (m : Meaning) × (n : ℕ) × Defines old (identifier_of x).string m n new
-declares_what s old (TypeStatement.interface x) new g = (kind_of an_interface g.0, g.1, g.3)
-declares_what s old (TypeStatement.world x) new g = (kind_of a_world g.0, g.1, g.3)
-declares_what s old (TypeStatement.ty x) new g = (g.0, g.1, g.3)
+declares_what s old x new g = (g.0, g.1, g.3)
 
 -- a statement that breaks a rule resolves to nothing
 pub statement_stops : (s : Given) (old : Composition) (p : Places) (e : Error) (x : Statement) (new : Composition) → StatementBroken s old p e x → StatementStep s old x new → ⊥

@@ -6,7 +6,7 @@ use Rattle.wac_resolution_rules.specs.Paths.{Context, key_of_path, segments_of, 
 use Rattle.wac_resolution_rules.specs.Bodies.{Body, empty_body, externs, with_extern, with_count, HasUse, UsesItem}
 use Rattle.wac_resolution_rules.specs.Includes.{Entries, HasEntry, Included, HasInclude}
 use Rattle.wac_resolution_rules.specs.Worlds.{HasInterfaceItem, IsInterface, HasExternType, HasInstance, HasExtern, HasWorldItem, includes_of, IsWorld}
-use Rattle.wac_resolution_rules.specs.TypeStatements.{Declares, Defines, declared_id}
+use Rattle.wac_resolution_rules.specs.TypeStatements.{Declares, DeclaresKind, Defines, declared_id, identifier_of}
 use Rattle.wac_resolution_rules.specs.Mentions.{Mention, path_mentions, use_path_mentions, interface_item_mentions, interface_mentions, extern_type_mentions, extern_mentions, world_ref_mentions, world_item_mentions, type_mentions, Agree, over}
 use Rattle.wac_resolution_rules.proofs.StatementsStop.{all_prefix, all_append}
 
@@ -100,9 +100,12 @@ world_agrees s ps qs root n id items h = λ i entry after.
     × steps_agree (HasInclude (over s ps) root) (HasInclude (over s qs) root) (include_mentions s.own) ps qs (include_agrees s ps qs root) mid (includes_of items) (includes_agree s.own ps qs items h) i b
     × (entry ≡ world_entry id b.uses b.imports b.exports) × (after ≡ b.resources)
 
+pub declared_agrees : (s : Context) (ps qs : Packages) (old : Composition) (x : TypeStatement) → Agree ps qs (type_mentions s.own x) → DeclaresKind (over s ps) old x ≡ DeclaresKind (over s qs) old x
+declared_agrees s ps qs old (TypeStatement.interface d) h = λ i m n.
+    (entry : Meaning) × interface_agrees s ps qs (root_scope old) old.resources (declared_id s d.id.string) d.items h i entry n × (m ≡ kind_of an_interface entry)
+declared_agrees s ps qs old (TypeStatement.world d) h = λ i m n.
+    (entry : Meaning) × world_agrees s ps qs (root_scope old) old.resources (declared_id s d.id.string) d.items h i entry n × (m ≡ kind_of a_world entry)
+declared_agrees s ps qs old (TypeStatement.ty d) h = refl
+
 pub declares_agrees : (s : Context) (ps qs : Packages) (old : Composition) (x : TypeStatement) → Agree ps qs (type_mentions s.own x) → Declares (over s ps) old x ≡ Declares (over s qs) old x
-declares_agrees s ps qs old (TypeStatement.interface d) h = λ i new.
-    (entry : Meaning) × (n : ℕ) × interface_agrees s ps qs (root_scope old) old.resources (declared_id s d.id.string) d.items h i entry n × Defines old d.id.string (kind_of an_interface entry) n new
-declares_agrees s ps qs old (TypeStatement.world d) h = λ i new.
-    (entry : Meaning) × (n : ℕ) × world_agrees s ps qs (root_scope old) old.resources (declared_id s d.id.string) d.items h i entry n × Defines old d.id.string (kind_of a_world entry) n new
-declares_agrees s ps qs old (TypeStatement.ty d) h = refl
+declares_agrees s ps qs old x h = λ i new. (m : Meaning) × (n : ℕ) × declared_agrees s ps qs old x h i m n × Defines old (identifier_of x).string m n new

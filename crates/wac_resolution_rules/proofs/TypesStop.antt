@@ -2,10 +2,12 @@
 use Rattle.wac_resolution_rules.proofs.Common.{◌≡◌, ◌⊎◌, inl, inr, ℕ, List, [], Some, None, Option, Bool, true, false, sym, ◌∙◌, ap, subst, Form, Slot, Meaning, Named, Scope, StandsFor, IsFresh, Steps, IsA, IsNoneOf, contains_borrow, Ident, Ty, OptionalTy, Types, NamedType, ResultList, FuncType, VariantCase, VariantDecl, Field, RecordDecl, Flag, FlagsDecl, EnumCase, EnumDecl, TypeAliasKind, TypeDecl, Error}
 use Rattle.wac_graph_types.specs.declared.kind.FuncKind.{FuncKind}
 use Rattle.wac_graph_types.specs.declared.kind.FuncKind.TheVariants as funcs
+use Rattle.wac_graph_types.specs.Shape.{is_resource_form, is_resource_or_value_form}
+use Rattle.wac_resolution_errors.specs.Error.{duplicate_enum_case, duplicate_flag, not_resource_type, not_value_type}
 use Rattle.wac_resolution_rules.specs.Types.{HasType, HasOptional, HaveTypes, HasParam, HasResultType, HasResult, HasResults, IsFuncWith}
 use Rattle.wac_resolution_rules.specs.Declarations.{HasOption, HasCase, HasField, HasFlag, HasEnumCase, IsVariant, IsRecord, IsFlags, IsEnum, Aliasing, at_root, alone, IsTypeAlias, IsAlias, IsTypeDecl}
-use Rattle.wac_resolution_rules.specs.BrokenTypes.{IsUndefined, IsNoResource, IsNoValue, TypeBroken, OptionalBroken, TypesBroken, ParamBroken, ParamsBroken, ResultTypeBroken, ResultBroken, ResultsBroken, FuncBroken}
-use Rattle.wac_resolution_rules.specs.BrokenDeclarations.{IsRepeatedEnumCase, IsRepeatedFlag, OptionBroken, CaseBroken, FieldBroken, VariantBroken, RecordBroken, FlagsBroken, EnumBroken, TypeAliasBroken, AliasBroken, TypeDeclBroken}
+use Rattle.wac_resolution_rules.specs.BrokenTypes.{IsUndefined, DenotesNo, TypeBroken, OptionalBroken, TypesBroken, ParamBroken, ParamsBroken, ResultTypeBroken, ResultBroken, ResultsBroken, FuncBroken}
+use Rattle.wac_resolution_rules.specs.BrokenDeclarations.{IsRepeatedPart, OptionBroken, CaseBroken, FieldBroken, VariantBroken, RecordBroken, FlagsBroken, EnumBroken, TypeAliasBroken, AliasBroken, TypeDeclBroken}
 use Rattle.wac_resolution_rules.proofs.StepLaws.{fails_stop}
 use Rattle.wac_resolution_rules.proofs.TypesOnce.{stands_once, type_once, param_once, result_once}
 use Rattle.wac_resolution_rules.proofs.DeclarationsOnce.{case_once, field_once, flag_once, enum_case_once}
@@ -23,11 +25,11 @@ none_stops test scope name k l p other q is =
 pub undefined_stops : {X : Type 0} (all : Named X) (x : Ident) (e : Error) (y : X) → IsUndefined all x e → StandsFor all x.string y → ⊥
 undefined_stops all x e y b stands = fresh_stops x.string all y b.0 stands
 
-borrow_stops : (scope : Scope) (x : Ident) (s : _) (e : Error) (m : Meaning) → IsUndefined scope x e ⊎ IsNoResource scope x e → HasType scope (Ty.borrow x s) m → ⊥
+borrow_stops : (scope : Scope) (x : Ident) (s : _) (e : Error) (m : Meaning) → IsUndefined scope x e ⊎ DenotesNo is_resource_form not_resource_type scope x e → HasType scope (Ty.borrow x s) m → ⊥
 borrow_stops scope x s e m (inl b) q = undefined_stops scope x e q.0 b q.1
 borrow_stops scope x s e m (inr b) q = none_stops _ scope x.string b.0 q.0 b.1 b.2 q.1 q.2
 
-ident_stops : (scope : Scope) (x : Ident) (e : Error) (m : Meaning) → IsUndefined scope x e ⊎ IsNoValue scope x e → HasType scope (Ty.ident x) m → ⊥
+ident_stops : (scope : Scope) (x : Ident) (e : Error) (m : Meaning) → IsUndefined scope x e ⊎ DenotesNo is_resource_or_value_form not_value_type scope x e → HasType scope (Ty.ident x) m → ⊥
 ident_stops scope x e m (inl b) q = undefined_stops scope x e q.0 b q.1
 ident_stops scope x e m (inr b) q = none_stops _ scope x.string b.0 q.0 b.1 b.2 q.1 q.2
 
@@ -108,10 +110,10 @@ field_stops : (scope : Scope) (declared : Ident) (e : Error) (old : Named Meanin
 field_stops scope declared e old before f new (inl b) q = type_stops scope f.ty e q.0 b q.1
 field_stops scope declared e old before f new (inr (v, has, b)) q = fresh_stops f.id.string old b.0 q.2 b.1
 
-flag_stops : (declared : Ident) (e : Error) (old : Named Meaning) (before : List Flag) (f : Flag) (new : Named Meaning) → IsRepeatedFlag declared old f.id e → HasFlag old f new → ⊥
+flag_stops : (declared : Ident) (e : Error) (old : Named Meaning) (before : List Flag) (f : Flag) (new : Named Meaning) → IsRepeatedPart duplicate_flag declared old f.id e → HasFlag old f new → ⊥
 flag_stops declared e old before f new b q = fresh_stops f.id.string old b.0 q.0 b.1
 
-enum_case_stops : (declared : Ident) (e : Error) (old : Named Meaning) (before : List EnumCase) (c : EnumCase) (new : Named Meaning) → IsRepeatedEnumCase declared old c.id e → HasEnumCase old c new → ⊥
+enum_case_stops : (declared : Ident) (e : Error) (old : Named Meaning) (before : List EnumCase) (c : EnumCase) (new : Named Meaning) → IsRepeatedPart duplicate_enum_case declared old c.id e → HasEnumCase old c new → ⊥
 enum_case_stops declared e old before f new b q = fresh_stops f.id.string old b.0 q.0 b.1
 
 pub variant_stops : (scope : Scope) (d : VariantDecl) (e : Error) (m : Meaning) → VariantBroken scope d e → IsVariant scope d m → ⊥
@@ -121,10 +123,10 @@ pub record_stops : (scope : Scope) (d : RecordDecl) (e : Error) (m : Meaning) �
 record_stops scope d e m b q = fails_stop (HasField scope) (FieldBroken scope d.id e) (field_once scope) (field_stops scope d.id e) [] d.fields q.0 b q.1
 
 pub flags_stop : (d : FlagsDecl) (e : Error) (m : Meaning) → FlagsBroken d e → IsFlags d m → ⊥
-flags_stop d e m b q = fails_stop HasFlag (λ old before x. IsRepeatedFlag d.id old x.id e) flag_once (flag_stops d.id e) [] d.flags q.0 b q.1
+flags_stop d e m b q = fails_stop HasFlag (λ old before x. IsRepeatedPart duplicate_flag d.id old x.id e) flag_once (flag_stops d.id e) [] d.flags q.0 b q.1
 
 pub enum_stops : (d : EnumDecl) (e : Error) (m : Meaning) → EnumBroken d e → IsEnum d m → ⊥
-enum_stops d e m b q = fails_stop HasEnumCase (λ old before x. IsRepeatedEnumCase d.id old x.id e) enum_case_once (enum_case_stops d.id e) [] d.cases q.0 b q.1
+enum_stops d e m b q = fails_stop HasEnumCase (λ old before x. IsRepeatedPart duplicate_enum_case d.id old x.id e) enum_case_once (enum_case_stops d.id e) [] d.cases q.0 b q.1
 
 type_alias_stops : (aliasing : Aliasing) (scope : Scope) (n : ℕ) (name : List ℕ) (x : Option Ident) (t : Ty) (e : Error) (m : Meaning) (after : ℕ) → TypeAliasBroken aliasing scope n name x t e → IsTypeAlias aliasing scope n name x t m after → ⊥
 type_alias_stops aliasing scope n name None t e m after b q = type_stops scope t e q.0 b q.1

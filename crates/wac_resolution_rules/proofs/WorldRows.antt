@@ -42,10 +42,10 @@ imports_once naming = (
   _,
   (
     _,
-    (_, _, (_, refl, refl, refl), (refl, refl, refl)),
+    (_, _, (_, (_, refl, refl, refl), refl), (refl, refl, refl)),
     (
       _,
-      (_, _, (_, _, (_, (_, refl, (refl, refl, refl)), refl), refl, refl, refl), (refl, refl, refl)),
+      (_, _, (_, (_, _, (_, (_, refl, (refl, refl, refl)), refl), refl, refl, refl), refl), (refl, refl, refl)),
       (
         _,
         (
@@ -53,10 +53,14 @@ imports_once naming = (
           _,
           (
             _,
-            _,
-            (_, (_, refl, (refl, refl, refl)), (_, refl, refl)),
-            (_, ([], _, refl, refl, refl, record { imports = _; exports = _; takes_imports = (_, refl, refl); takes_exports = refl; none_left = refl; is = refl }), refl),
-            refl,
+            (
+              _,
+              _,
+              (_, (_, refl, (refl, refl, refl)), (_, refl, refl)),
+              (_, ([], _, refl, refl, refl, record { imports = _; exports = _; takes_imports = (_, refl, refl); takes_exports = refl; none_left = refl; is = refl }), refl),
+              refl,
+              refl,
+            ),
             refl,
           ),
           (refl, refl, refl),

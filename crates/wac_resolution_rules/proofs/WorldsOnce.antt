@@ -6,7 +6,7 @@ use Rattle.wac_resolution_rules.specs.Bodies.{Body, empty_body, with_extern, wit
 use Rattle.wac_resolution_rules.specs.Includes.{HasInclude}
 use Rattle.wac_resolution_rules.specs.Worlds.{IsFuncRef, HasInterfaceItem, IsInterface, HasExternType, id_or_empty, HasInstance, HasExtern, HasWorldItem, includes_of, IsWorld}
 use Rattle.wac_resolution_rules.specs.Composition.{Composition, root_scope}
-use Rattle.wac_resolution_rules.specs.TypeStatements.{declared_id, declared_as, defining, Defines, Declares}
+use Rattle.wac_resolution_rules.specs.TypeStatements.{declared_id, identifier_of, DeclaresKind, defining, Defines, Declares}
 use Rattle.wac_resolution_rules.proofs.StepLaws.{IsOnce, steps_once}
 use Rattle.wac_resolution_rules.proofs.TypesOnce.{stands_once, func_once}
 use Rattle.wac_resolution_rules.proofs.DeclarationsOnce.{Same, decl_once}
@@ -63,13 +63,16 @@ world_once context root n id items a b i j p q =
 defines_once : (old : Composition) (name : List ℕ) (m k : Meaning) (i j : ℕ) (a b : Composition) → Same m i k j → Defines old name m i a → Defines old name k j b → a ≡ b
 defines_once old name m k i j a b e p q = p.2 ∙ ap (λ l. defining old name l i) e.0 ∙ ap (defining old name k) e.1 ∙ sym q.2
 
+declared_once : (context : Context) (old : Composition) (s : TypeStatement) (a b : Meaning) (i j : ℕ) → DeclaresKind context old s a i → DeclaresKind context old s b j → Same a i b j
+declared_once context old (TypeStatement.interface d) a b i j p q =
+    let e = interface_once context (root_scope old) old.resources (declared_id context d.id.string) d.items p.0 q.0 i j p.1 q.1 in
+    (p.2 ∙ ap (kind_of an_interface) e.0 ∙ sym q.2, e.1)
+declared_once context old (TypeStatement.world d) a b i j p q =
+    let e = world_once context (root_scope old) old.resources (declared_id context d.id.string) d.items p.0 q.0 i j p.1 q.1 in
+    (p.2 ∙ ap (kind_of a_world) e.0 ∙ sym q.2, e.1)
+declared_once context old (TypeStatement.ty d) a b i j p q = decl_once (root_scope old) old.resources d a b i j p q
+
 -- a type statement yields one composition
 pub declares_once : (context : Context) → IsOnce (Declares context)
-declares_once context old (TypeStatement.interface d) a b p q =
-    let e = interface_once context (root_scope old) old.resources (declared_id context d.id.string) d.items p.0 q.0 p.1 q.1 p.2 q.2 in
-    defines_once old d.id.string (kind_of an_interface p.0) (kind_of an_interface q.0) p.1 q.1 a b (ap (kind_of an_interface) e.0, e.1) p.3 q.3
-declares_once context old (TypeStatement.world d) a b p q =
-    let e = world_once context (root_scope old) old.resources (declared_id context d.id.string) d.items p.0 q.0 p.1 q.1 p.2 q.2 in
-    defines_once old d.id.string (kind_of a_world p.0) (kind_of a_world q.0) p.1 q.1 a b (ap (kind_of a_world) e.0, e.1) p.3 q.3
-declares_once context old (TypeStatement.ty d) a b p q =
-    defines_once old (declared_as d).string p.0 q.0 p.1 q.1 a b (decl_once (root_scope old) old.resources d p.0 q.0 p.1 q.1 p.2 q.2) p.3 q.3
+declares_once context old s a b p q =
+    defines_once old (identifier_of s).string p.0 q.0 p.1 q.1 a b (declared_once context old s p.0 q.0 p.1 q.1 p.2 q.2) p.3 q.3

@@ -8,7 +8,7 @@ use Rattle.wac_resolution_rules.specs.Bodies.{Body, empty_body, externs, with_ex
 use Rattle.wac_resolution_rules.specs.Includes.{Entries, HasEntry, Included, HasInclude}
 use Rattle.wac_resolution_rules.specs.Worlds.{IsFuncRef, HasInterfaceItem, IsInterface, HasExternType, HasExtern, HasWorldItem, includes_of, IsWorld}
 use Rattle.wac_resolution_rules.specs.Composition.{Composition, root_scope}
-use Rattle.wac_resolution_rules.specs.TypeStatements.{declared_id, declared_as, Defines, Declares}
+use Rattle.wac_resolution_rules.specs.TypeStatements.{declared_id, declared_as, identifier_of, DeclaresKind, Defines, Declares}
 use Rattle.wac_resolution_rules.proofs.StepLaws.{steps_map}
 use Rattle.wac_resolution_rules.proofs.TypesPlain.{func_with_plain, constructor_plain, variant_plain, record_plain, flags_plain, enum_plain, alias_plain, decl_plain}
 
@@ -132,13 +132,18 @@ identifier_plain (TypeDecl.flags d) = refl
 identifier_plain (TypeDecl.enum d) = refl
 identifier_plain (TypeDecl.alias d) = refl
 
+statement_plain : (s : TypeStatement) → (identifier_of (walk_type_statement (changed plain) no_docs s)).string ≡ (identifier_of s).string
+statement_plain (TypeStatement.interface d) = refl
+statement_plain (TypeStatement.world d) = refl
+statement_plain (TypeStatement.ty d) = identifier_plain d
+
+declared_plain : (context : Context) (old : Composition) (s : TypeStatement) → DeclaresKind context old (walk_type_statement (changed plain) no_docs s) ≡ DeclaresKind context old s
+declared_plain context old (TypeStatement.interface d) = λ i m n.
+    (entry : Meaning) × interface_plain context (root_scope old) old.resources (declared_id context d.id.string) d.items i entry n × (m ≡ kind_of an_interface entry)
+declared_plain context old (TypeStatement.world d) = λ i m n.
+    (entry : Meaning) × world_plain context (root_scope old) old.resources (declared_id context d.id.string) d.items i entry n × (m ≡ kind_of a_world entry)
+declared_plain context old (TypeStatement.ty d) = decl_plain (root_scope old) old.resources d
+
 -- a type statement yields what its plain tree yields
 pub declares_plain : (context : Context) (old : Composition) (s : TypeStatement) → Declares context old (walk_type_statement (changed plain) no_docs s) ≡ Declares context old s
-declares_plain context old (TypeStatement.interface d) = λ i new.
-    (entry : Meaning) × (n : ℕ) × interface_plain context (root_scope old) old.resources (declared_id context d.id.string) d.items i entry n
-    × Defines old d.id.string (kind_of an_interface entry) n new
-declares_plain context old (TypeStatement.world d) = λ i new.
-    (entry : Meaning) × (n : ℕ) × world_plain context (root_scope old) old.resources (declared_id context d.id.string) d.items i entry n
-    × Defines old d.id.string (kind_of a_world entry) n new
-declares_plain context old (TypeStatement.ty d) = λ i new.
-    (m : Meaning) × (n : ℕ) × decl_plain (root_scope old) old.resources d i m n × Defines old (identifier_plain d i) m n new
+declares_plain context old s = λ i new. (m : Meaning) × (n : ℕ) × declared_plain context old s i m n × Defines old (statement_plain s i) m n new

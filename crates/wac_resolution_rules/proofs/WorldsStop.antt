@@ -7,7 +7,7 @@ use Rattle.wac_resolution_rules.specs.Bodies.{Body, empty_body}
 use Rattle.wac_resolution_rules.specs.Includes.{Entries, HasEntry, has_colon, Taking, name_taken, TakesNamed, Takes, Included, HasInclude}
 use Rattle.wac_resolution_rules.specs.Worlds.{IsFuncRef, HasInterfaceItem, IsInterface, HasExternType, id_or_empty, HasInstance, HasExtern, HasWorldItem, includes_of, IsWorld}
 use Rattle.wac_resolution_rules.specs.Composition.{Composition, root_scope}
-use Rattle.wac_resolution_rules.specs.TypeStatements.{declared_id, declared_as, Defines, Declares}
+use Rattle.wac_resolution_rules.specs.TypeStatements.{declared_id, identifier_of, DeclaresKind, Defines, Declares}
 use Rattle.wac_resolution_rules.specs.BrokenBodies.{Owner, of_interface, of_world}
 use Rattle.wac_resolution_rules.specs.BrokenWorlds.{FuncRefBroken, InterfaceItemBroken, InterfaceBroken, ExternTypeBroken, InstanceBroken, ExternBroken, WorldItemBroken, IsSecondEntry, WorldRefBroken, IsNoWorld, IsIncludeConflict, IsLeftOver, TakingBroken, IncludeBroken, WorldBroken, DefinitionBroken, DeclarationBroken}
 use Rattle.wac_resolution_rules.specs.Places.{Places, bound_in_interface, bound_in_world}
@@ -127,11 +127,12 @@ defines_stops : (old : Composition) (places : Places) (x : Ident) (e : Error) (m
 defines_stops old places x e m n new (inl b) q = fresh_stops x.string old.exports b.0 q.0 b.2
 defines_stops old places x e m n new (inr (new_export, b)) q = fresh_stops x.string old.declared b.0 q.1 b.2
 
+declared_stops : (context : Context) (old : Composition) (s : TypeStatement) (e : Error) (m : Meaning) (n : ℕ) → KindBroken context old s e → DeclaresKind context old s m n → ⊥
+declared_stops context old (TypeStatement.interface d) e m n b q = interface_body_stops context (root_scope old) (Some d.id.string) (declared_id context d.id.string) old.resources d.items e q.0 n b q.1
+declared_stops context old (TypeStatement.world d) e m n b q = world_stops context (root_scope old) d.id.string (declared_id context d.id.string) old.resources d.items e q.0 n b q.1
+declared_stops context old (TypeStatement.ty d) e m n b q = decl_stops (root_scope old) old.resources d e m n b q
+
 -- a type statement that breaks a rule yields no composition
 pub broken_stops : (context : Context) (old : Composition) (places : Places) (s : TypeStatement) (e : Error) (new : Composition) → DeclarationBroken context old places s e → Declares context old s new → ⊥
-broken_stops context old places (TypeStatement.interface d) e new (inl b) q = interface_body_stops context (root_scope old) (Some d.id.string) (declared_id context d.id.string) old.resources d.items e q.0 q.1 b q.2
-broken_stops context old places (TypeStatement.interface d) e new (inr b) q = defines_stops old places d.id e _ q.1 new b.1 q.3
-broken_stops context old places (TypeStatement.world d) e new (inl b) q = world_stops context (root_scope old) d.id.string (declared_id context d.id.string) old.resources d.items e q.0 q.1 b q.2
-broken_stops context old places (TypeStatement.world d) e new (inr b) q = defines_stops old places d.id e _ q.1 new b.1 q.3
-broken_stops context old places (TypeStatement.ty d) e new (inl b) q = decl_stops (root_scope old) old.resources d e q.0 q.1 b q.2
-broken_stops context old places (TypeStatement.ty d) e new (inr b) q = defines_stops old places (declared_as d) e _ q.1 new b.1 q.3
+broken_stops context old places s e new (inl b) q = declared_stops context old s e q.0 q.1 b q.2
+broken_stops context old places s e new (inr b) q = defines_stops old places (identifier_of s) e q.0 q.1 new b.3 q.3

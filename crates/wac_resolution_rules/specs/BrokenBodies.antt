@@ -20,7 +20,7 @@ use Rattle.wac_resolution_rules.specs.Paths.{Context, is_own, key_of_path, segme
 use Rattle.wac_resolution_rules.specs.Declarations.{IsVariant, IsRecord, IsFlags, IsEnum, IsAlias, in_body}
 use Rattle.wac_resolution_rules.specs.Types.{first_params}
 use Rattle.wac_resolution_rules.specs.Bodies.{Body, externs, constructor_name, method_name, static_name, HasMethod, with_resource, used_as, UsesItem}
-use Rattle.wac_resolution_rules.specs.BrokenTypes.{IsUndefined, ParamsBroken, FuncBroken}
+use Rattle.wac_resolution_rules.specs.BrokenTypes.{IsUndefined, IsRepeated, IsTaken, ParamsBroken, FuncBroken}
 use Rattle.wac_resolution_rules.specs.BrokenDeclarations.{VariantBroken, RecordBroken, FlagsBroken, EnumBroken, AliasBroken}
 use Rattle.wac_resolution_rules.specs.Spans.{use_path_name, use_path_span}
 
@@ -35,15 +35,9 @@ IsUnknownPathPackage context p e = (package_of (key_of_path p) context.packages 
 abbrev pub StandsAt : PackagePath → ℕ → List ℕ → Span → Type 0
 StandsAt p n segment at = slice_get (segment_spans p) n ≡ Some (segment, at)
 
--- the first segment of a path of the document's own package is undefined
-abbrev pub IsUndefinedSegment : Scope → PackagePath → List ℕ → Error → Type 0
-IsUndefinedSegment root p first e = (at : Span) × IsFresh first root × StandsAt p 0 first at
-    × (e ≡ undefined_name first at)
-
--- the package does not define the first segment
-abbrev pub IsNoDefinition : Named Meaning → PackagePath → List ℕ → Error → Type 0
-IsNoDefinition definitions p first e = (at : Span) × IsFresh first definitions × StandsAt p 0 first at
-    × (e ≡ package_missing_export None [] p.name first at)
+-- the first segment of a path is none of the names among which it begins
+abbrev pub IsNoBeginning : Named Meaning → PackagePath → List ℕ → (Span → Error) → Error → Type 0
+IsNoBeginning names p first error e = (at : Span) × IsFresh first names × StandsAt p 0 first at × (e ≡ error at)
 
 -- the last of some names
 abbrev pub last_of : List ℕ → List (List ℕ) → List ℕ
@@ -64,12 +58,13 @@ IsNoPackageExport p first e k before segment = (at : Span) × (export_of k segme
 
 abbrev pub OwnPathBroken : Scope → PackagePath → List (List ℕ) → Error → Type 0
 OwnPathBroken root p [] e = ⊥
-OwnPathBroken root p (first ∷ rest) e = IsUndefinedSegment root p first e
+OwnPathBroken root p (first ∷ rest) e = IsNoBeginning root p first (undefined_name first) e
     ⊎ ((k : Meaning) × StandsFor root first k × Fails IsMember (IsNoExport p first e) k rest)
 
 abbrev pub ForeignPathBroken : Named Meaning → PackagePath → List (List ℕ) → Error → Type 0
 ForeignPathBroken definitions p [] e = ⊥
-ForeignPathBroken definitions p (first ∷ rest) e = IsNoDefinition definitions p first e
+ForeignPathBroken definitions p (first ∷ rest) e =
+    IsNoBeginning definitions p first (package_missing_export None [] p.name first) e
     ⊎ ((k : Meaning) × StandsFor definitions first k × Fails IsMember (IsNoPackageExport p first e) k rest)
 
 abbrev pub path_broken : Bool → Context → Scope → PackagePath → Error → Type 0
@@ -90,8 +85,7 @@ pub data Owner : Type 0 where
 
 -- the identifier is bound in the body already
 abbrev pub IsBoundInBody : Named Span → Scope → Ident → Error → Type 0
-IsBoundInBody places scope x e = (m : Meaning) × (previous : Span) × StandsFor scope x.string m
-    × StandsFor places x.string previous × (e ≡ duplicate_name x.string x.span previous)
+IsBoundInBody places scope x e = IsTaken scope places x.string (duplicate_name x.string x.span) e
 
 abbrev pub conflict : Owner → ExternKind → List ℕ → Span → Error
 conflict (of_interface name) side x at = duplicate_interface_export x name at
@@ -99,7 +93,7 @@ conflict (of_world name) side x at = duplicate_world_item side x name at
 
 -- the name is among the externs already
 abbrev pub IsConflict : Owner → ExternKind → Body → List ℕ → Span → Error → Type 0
-IsConflict of side old x at e = (m : Meaning) × StandsFor (externs side old) x m × (e ≡ conflict of side x at)
+IsConflict of side old x at e = IsRepeated (externs side old) x (conflict of side x at) e
 
 -- the identifier is bound already, or its name is among the externs
 abbrev pub NameBroken : Owner → ExternKind → Named Span → Body → Ident → Error → Type 0
@@ -107,11 +101,6 @@ NameBroken of side places old x e = IsBoundInBody places old.scope x e
     ⊎ (IsFresh x.string old.scope × IsConflict of side old x.string x.span e)
 
 -- ---- resources
-
--- the resource has a constructor already
-abbrev pub IsSecondConstructor : ExternKind → List ℕ → Body → Span → Error → Type 0
-IsSecondConstructor side resource old at e = (m : Meaning) × StandsFor (externs side old) (constructor_name resource) m
-    × (e ≡ duplicate_resource_constructor resource at)
 
 -- the resource has a method of that name already
 abbrev pub IsSecondMethod : ExternKind → List ℕ → Body → Ident → Error → Type 0
@@ -124,9 +113,10 @@ abbrev pub method_kind : Bool → FuncKind
 method_kind true = funcs.Static
 method_kind false = funcs.Method
 
+-- the resource has a constructor already, or such a method; or the parameters or the function have no meaning
 abbrev pub MethodBroken : ExternKind → List ℕ → Meaning → Error → Body → List ResourceMethod → ResourceMethod → Type 0
 MethodBroken side resource entry e old before (ResourceMethod.constructor c) =
-    IsSecondConstructor side resource old c.span e
+    IsRepeated (externs side old) (constructor_name resource) (duplicate_resource_constructor resource c.span) e
     ⊎ (IsFresh (constructor_name resource) (externs side old) × ParamsBroken funcs.Constructor old.scope [] c.params e)
 MethodBroken side resource entry e old before (ResourceMethod.method x) =
     IsSecondMethod side resource old x.id e
@@ -183,14 +173,15 @@ IsUsable interface x = (m : Meaning) × (export_of interface x.id.string ≡ Som
 abbrev pub as_clause : List ℕ
 as_clause = codes "consider using an `as` clause to use a different name"
 
-abbrev pub help_of_use : Option Ident → Option (List ℕ)
-help_of_use None = Some as_clause
-help_of_use (Some x) = None
+-- the help, where no name is written
+abbrev pub help_unless : {X : Type 0} → Option X → Option (List ℕ)
+help_unless None = Some as_clause
+help_unless (Some x) = None
 
 -- the name here is among the externs already
 abbrev pub IsUseConflict : ExternKind → Body → UseItem → Error → Type 0
-IsUseConflict side old x e = (m : Meaning) × StandsFor (externs side old) (used_as x).string m
-    × (e ≡ use_conflict side (used_as x).string (used_as x).span (help_of_use x.as_id))
+IsUseConflict side old x e = IsRepeated (externs side old) (used_as x).string
+    (use_conflict side (used_as x).string (used_as x).span (help_unless x.as_id)) e
 
 abbrev pub UseItemBroken : ExternKind → Meaning → List ℕ → Error → Body → List UseItem → UseItem → Type 0
 UseItemBroken side interface path e old before x = IsNoTypeThere interface path x e

@@ -1,5 +1,6 @@
 -- Which rule of declarations an error says is broken, as in BrokenTypes.
 use Rattle.std.specs.Prelude.{◌≡◌, ◌⊎◌, ℕ, List, [], Option, Some, None}
+use Rattle.wac_lexer.specs.Span.{Span}
 use Rattle.wac_graph_types.specs.declared.kind.FuncKind.TheVariants as funcs
 use Rattle.wac_graph_types.specs.Meaning.{Meaning}
 use Rattle.wac_graph_types.specs.Scope.{Named, Scope, StandsFor}
@@ -9,24 +10,11 @@ use Rattle.wac_ast_grammar.specs.Tree.{Ident, Ty, VariantCase, VariantDecl, Fiel
 use Rattle.wac_resolution_errors.specs.Error.{Error, duplicate_variant_case, duplicate_record_field, duplicate_enum_case, duplicate_flag, invalid_alias_type}
 use Rattle.wac_resolution_rules.specs.Types.{HasType}
 use Rattle.wac_resolution_rules.specs.Declarations.{HasOption, HasCase, HasField, HasFlag, HasEnumCase, Aliasing, at_root, alone}
-use Rattle.wac_resolution_rules.specs.BrokenTypes.{IsUndefined, TypeBroken, FuncBroken}
+use Rattle.wac_resolution_rules.specs.BrokenTypes.{IsUndefined, IsRepeated, TypeBroken, FuncBroken}
 
 -- an earlier case, field or flag has the name
-abbrev pub IsRepeatedCase : Ident → Named Meaning → Ident → Error → Type 0
-IsRepeatedCase declared old x e = (v : Meaning) × StandsFor old x.string v
-    × (e ≡ duplicate_variant_case x.string declared.string x.span)
-
-abbrev pub IsRepeatedField : Ident → Named Meaning → Ident → Error → Type 0
-IsRepeatedField declared old x e = (v : Meaning) × StandsFor old x.string v
-    × (e ≡ duplicate_record_field x.string declared.string x.span)
-
-abbrev pub IsRepeatedEnumCase : Ident → Named Meaning → Ident → Error → Type 0
-IsRepeatedEnumCase declared old x e = (v : Meaning) × StandsFor old x.string v
-    × (e ≡ duplicate_enum_case x.string declared.string x.span)
-
-abbrev pub IsRepeatedFlag : Ident → Named Meaning → Ident → Error → Type 0
-IsRepeatedFlag declared old x e = (v : Meaning) × StandsFor old x.string v
-    × (e ≡ duplicate_flag x.string declared.string x.span)
+abbrev pub IsRepeatedPart : (List ℕ → List ℕ → Span → Error) → Ident → Named Meaning → Ident → Error → Type 0
+IsRepeatedPart error declared old x e = IsRepeated old x.string (error x.string declared.string x.span) e
 
 abbrev pub OptionBroken : Scope → Option Ty → Error → Type 0
 OptionBroken scope None e = ⊥
@@ -34,11 +22,11 @@ OptionBroken scope (Some t) e = TypeBroken scope t e
 
 abbrev pub CaseBroken : Scope → Ident → Error → Named Meaning → List VariantCase → VariantCase → Type 0
 CaseBroken scope declared e old before c = OptionBroken scope c.ty e
-    ⊎ ((v : Meaning) × HasOption scope c.ty v × IsRepeatedCase declared old c.id e)
+    ⊎ ((v : Meaning) × HasOption scope c.ty v × IsRepeatedPart duplicate_variant_case declared old c.id e)
 
 abbrev pub FieldBroken : Scope → Ident → Error → Named Meaning → List Field → Field → Type 0
 FieldBroken scope declared e old before f = TypeBroken scope f.ty e
-    ⊎ ((v : Meaning) × HasType scope f.ty v × IsRepeatedField declared old f.id e)
+    ⊎ ((v : Meaning) × HasType scope f.ty v × IsRepeatedPart duplicate_record_field declared old f.id e)
 
 abbrev pub VariantBroken : Scope → VariantDecl → Error → Type 0
 VariantBroken scope d e = Fails (HasCase scope) (CaseBroken scope d.id e) [] d.cases
@@ -47,10 +35,10 @@ abbrev pub RecordBroken : Scope → RecordDecl → Error → Type 0
 RecordBroken scope d e = Fails (HasField scope) (FieldBroken scope d.id e) [] d.fields
 
 abbrev pub FlagsBroken : FlagsDecl → Error → Type 0
-FlagsBroken d e = Fails HasFlag (λ old before x. IsRepeatedFlag d.id old x.id e) [] d.flags
+FlagsBroken d e = Fails HasFlag (λ old before x. IsRepeatedPart duplicate_flag d.id old x.id e) [] d.flags
 
 abbrev pub EnumBroken : EnumDecl → Error → Type 0
-EnumBroken d e = Fails HasEnumCase (λ old before x. IsRepeatedEnumCase d.id old x.id e) [] d.cases
+EnumBroken d e = Fails HasEnumCase (λ old before x. IsRepeatedPart duplicate_enum_case d.id old x.id e) [] d.cases
 
 -- what the identifier denotes can't be aliased there
 abbrev pub IsNoAlias : Aliasing → Scope → ℕ → List ℕ → Ident → Error → Type 0

@@ -16,7 +16,7 @@ use Rattle.wac_resolution_rules.specs.Composition.{Composition, Node, kind_at}
 use Rattle.wac_resolution_rules.specs.Nodes.{node_at, instance_at}
 use Rattle.wac_resolution_rules.specs.Expressions.{At, accessed, Accesses, Giving, nothing_given, name_meant, name_inferred, spread_from, Spreads, spreads_of, has_fill, IsEmpty, Fits, left_out, Stands, PrimaryStands, Gives, GivesOne}
 use Rattle.wac_resolution_errors.specs.Error.{Error, Operation, duplicate_instantiation_arg, fill_argument_not_last, mismatched_instantiation_arg, missing_component_import, missing_instance_export, missing_instantiation_arg, not_an_instance, spread_instantiation_no_match, unknown_package}
-use Rattle.wac_resolution_rules.specs.BrokenTypes.{IsUndefined}
+use Rattle.wac_resolution_rules.specs.BrokenTypes.{IsUndefined, IsRepeated}
 
 -- x is one of the xs, and P holds of each before it
 abbrev pub ReachedAt : {X : Type 0} → (X → Type 0) → List X → X → Type 0
@@ -46,8 +46,7 @@ IsFillNotLast rest span e = (IsEmpty rest → ⊥) × (e ≡ fill_argument_not_l
 
 -- an earlier argument has the name
 abbrev pub IsGivenAlready : Giving → List ℕ → Span → Error → Type 0
-IsGivenAlready g name span e = (node : ℕ) × StandsFor g.arguments name node
-    × (e ≡ duplicate_instantiation_arg name span)
+IsGivenAlready g name span e = IsRepeated g.arguments name (duplicate_instantiation_arg name span) e
 
 -- the instance exports no import for which nothing is given yet
 pub record IsNoMatch (imports : Named Meaning) (g : Giving) (node : ℕ) (span : Span) (e : Error) : Type 0 where
@@ -58,12 +57,11 @@ pub record IsNoMatch (imports : Named Meaning) (g : Giving) (node : ℕ) (span :
 
 -- where the argument for a name is: the argument itself, else the first spread whose instance exports the name
 abbrev pub argument_place : Composition → Named Meaning → InstantiationArgument → Named Span
-argument_place c imports (InstantiationArgument.fill span) = []
-argument_place c imports (InstantiationArgument.spread id) = []
 argument_place c imports (InstantiationArgument.named name x) = (name_meant name imports, argument_name_span name) ∷ []
 argument_place c imports
     (InstantiationArgument.inferred id) = elim (option_and_then (node_at c) (look_up id.string c.declared))
     [ None ↦ [] | Some n ↦ (name_inferred imports id.string n, id.span) ∷ [] ]
+argument_place c imports _ = []
 
 abbrev pub own_places : Composition → Named Meaning → Arguments → Named Span
 own_places c imports Arguments.none = []

@@ -22,8 +22,8 @@ use Rattle.wac_resolution_rules.specs.Expressions.{At, at, alias_at, Stands}
 use Rattle.wac_resolution_rules.specs.Statements.{ImportsKind, name_imported, definition_bound, unnamed_export, unexported, ExportsOne}
 use Rattle.wac_resolution_rules.specs.Target.{allowed, open_imports, all_imports, ImportAllowed, ExportMet}
 use Rattle.wac_resolution_errors.specs.Error.{Error, Operation, duplicate_extern_name, export_conflict, export_requires_as, import_not_in_target, invalid_extern_name, missing_target_export, not_world, spread_export_no_effect, target_mismatch}
-use Rattle.wac_resolution_rules.specs.BrokenTypes.{IsUndefined, FuncBroken}
-use Rattle.wac_resolution_rules.specs.BrokenBodies.{PathBroken, as_clause}
+use Rattle.wac_resolution_rules.specs.BrokenTypes.{IsUndefined, IsTaken, FuncBroken}
+use Rattle.wac_resolution_rules.specs.BrokenBodies.{PathBroken, as_clause, help_unless}
 use Rattle.wac_resolution_rules.specs.BrokenWorlds.{InterfaceBroken, IsBound, DeclarationBroken}
 use Rattle.wac_resolution_rules.specs.BrokenExpressions.{ReachedAt, IsNotInstance, ExprBroken}
 use Rattle.wac_resolution_rules.specs.Spans.{expr_span, import_span}
@@ -32,22 +32,14 @@ use Rattle.wac_resolution_rules.specs.Places.{Places, names_at}
 -- ---- one rule each
 
 -- the name is imported already
-pub record IsImportedAlready (c : Composition) (p : Places) (name : List ℕ) (span : Span) (help : Option (List ℕ))
-    (e : Error) : Type 0 where
-  pub kind : Meaning
-  pub previous : Span
-  pub imported : StandsFor (imports c) name kind
-  pub place : StandsFor p.imported name previous
-  pub error : e ≡ duplicate_extern_name externs.Import name span previous help
+abbrev pub IsImportedAlready : Composition → Places → List ℕ → Span → Option (List ℕ) → Error → Type 0
+IsImportedAlready c p name span help e =
+    IsTaken (imports c) p.imported name (λ at. duplicate_extern_name externs.Import name span at help) e
 
 -- the name is exported already
-pub record IsExportedAlready (c : Composition) (p : Places) (name : List ℕ) (span : Span) (help : Option (List ℕ))
-    (e : Error) : Type 0 where
-  pub node : ℕ
-  pub previous : Span
-  pub exported : StandsFor c.exports name node
-  pub place : StandsFor p.exported name previous
-  pub error : e ≡ duplicate_extern_name externs.Export name span previous help
+abbrev pub IsExportedAlready : Composition → Places → List ℕ → Span → Option (List ℕ) → Error → Type 0
+IsExportedAlready c p name span help e =
+    IsTaken c.exports p.exported name (λ at. duplicate_extern_name externs.Export name span at help) e
 
 -- no import or export may have the name
 abbrev pub IsInvalidName : Given → List ℕ → ExternKind → Span → Error → Type 0
@@ -135,11 +127,6 @@ ImportKindBroken s old e (ImportType.interface x) =
     InterfaceBroken s.context (root_scope old) None old.resources x.items e
 ImportKindBroken s old e (ImportType.path x) = PathBroken s.context (root_scope old) x e
 ImportKindBroken s old e (ImportType.ident x) = IsUndefined (root_scope old) x e
-
--- the help, where no name is written
-abbrev pub help_unless : {X : Type 0} → Option X → Option (List ℕ)
-help_unless None = Some as_clause
-help_unless (Some x) = None
 
 -- one of the tests of an import's name and identifier, in order
 abbrev pub ImportNameBroken : Given → Composition → Places → Error → ImportStatement → List ℕ → Type 0

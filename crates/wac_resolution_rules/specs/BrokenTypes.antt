@@ -1,6 +1,8 @@
 -- Which rule of types an error says is broken. `Is..` is one rule; `..Broken` says where rules are tested, each after
 -- the tests before it passed.
-use Rattle.std.specs.Prelude.{◌≡◌, ◌⊎◌, List, [], true}
+use Rattle.std.specs.Prelude.{◌≡◌, ◌⊎◌, ℕ, List, [], Bool, true}
+use Rattle.wac_lexer.specs.Span.{Span}
+use Rattle.wac_graph_types.specs.Kind.{Form}
 use Rattle.wac_graph_types.specs.declared.kind.FuncKind.{FuncKind}
 use Rattle.wac_graph_types.specs.Meaning.{Meaning}
 use Rattle.wac_graph_types.specs.Scope.{Named, Scope, StandsFor, IsFresh}
@@ -11,19 +13,27 @@ use Rattle.wac_ast_grammar.specs.Spans.{ty_span}
 use Rattle.wac_resolution_errors.specs.Error.{Error, undefined_name, not_resource_type, not_value_type, duplicate_parameter, duplicate_result, borrow_in_result}
 use Rattle.wac_resolution_rules.specs.Types.{HasType, HasOptional, HasParam, HasResultType, HasResult}
 
+-- ---- names
+
 -- the identifier denotes nothing
 abbrev pub IsUndefined : {X : Type 0} → Named X → Ident → Error → Type 0
 IsUndefined all x e = IsFresh x.string all × (e ≡ undefined_name x.string x.span)
 
--- what the identifier denotes is not a resource type
-abbrev pub IsNoResource : Scope → Ident → Error → Type 0
-IsNoResource scope x e = (k : Meaning) × StandsFor scope x.string k × IsNoneOf is_resource_form k
-    × (e ≡ not_resource_type x.string (described k) x.span)
+-- what the identifier denotes is of no form that passes the test, which the error says of it
+abbrev pub DenotesNo : (Form → Bool) → (List ℕ → List ℕ → Span → Error) → Scope → Ident → Error → Type 0
+DenotesNo test error scope x e = (k : Meaning) × StandsFor scope x.string k × IsNoneOf test k
+    × (e ≡ error x.string (described k) x.span)
 
--- what the identifier denotes is neither a resource type nor a type of values
-abbrev pub IsNoValue : Scope → Ident → Error → Type 0
-IsNoValue scope x e = (k : Meaning) × StandsFor scope x.string k × IsNoneOf is_resource_or_value_form k
-    × (e ≡ not_value_type x.string (described k) x.span)
+-- the name is among the names already, which the error says
+abbrev pub IsRepeated : {X : Type 0} → Named X → List ℕ → Error → Error → Type 0
+IsRepeated {X} names name error e = (x : X) × StandsFor names name x × (e ≡ error)
+
+-- the name is among the names already, and the error says where
+abbrev pub IsTaken : {X : Type 0} → Named X → Named Span → List ℕ → (Span → Error) → Error → Type 0
+IsTaken {X} names places name error e = (x : X) × (previous : Span) × StandsFor names name x
+    × StandsFor places name previous × (e ≡ error previous)
+
+-- ---- types of values
 
 abbrev mutual
   -- the first part of a type that has no meaning
@@ -33,10 +43,11 @@ abbrev mutual
   TypeBroken scope (Ty.option t s) e = TypeBroken scope t e
   TypeBroken scope (Ty.result o r s) e = OptionalBroken scope o e
       ⊎ ((v : Meaning) × HasOptional scope o v × OptionalBroken scope r e)
-  TypeBroken scope (Ty.borrow x s) e = IsUndefined scope x e ⊎ IsNoResource scope x e
+  TypeBroken scope (Ty.borrow x s) e = IsUndefined scope x e ⊎ DenotesNo is_resource_form not_resource_type scope x e
   TypeBroken scope (Ty.stream t s) e = OptionalBroken scope t e
   TypeBroken scope (Ty.future t s) e = OptionalBroken scope t e
-  TypeBroken scope (Ty.ident x) e = IsUndefined scope x e ⊎ IsNoValue scope x e
+  TypeBroken scope (Ty.ident x) e = IsUndefined scope x e
+      ⊎ DenotesNo is_resource_or_value_form not_value_type scope x e
   TypeBroken scope _ e = ⊥
 
   pub OptionalBroken : Scope → OptionalTy → Error → Type 0
@@ -50,14 +61,10 @@ abbrev mutual
 
 -- ---- function types
 
--- an earlier parameter has the name, or it is a method's own
-abbrev pub IsRepeatedParameter : FuncKind → Named Meaning → Ident → Error → Type 0
-IsRepeatedParameter kind old x e = (v : Meaning) × StandsFor old x.string v
-    × (e ≡ duplicate_parameter kind x.string x.span)
-
+-- the parameter's type has no meaning; or an earlier one has its name, or the name is a method's own
 abbrev pub ParamBroken : FuncKind → Scope → Error → Named Meaning → List NamedType → NamedType → Type 0
-ParamBroken kind scope e old before p = TypeBroken scope p.ty e
-    ⊎ ((v : Meaning) × HasType scope p.ty v × IsRepeatedParameter kind old p.id e)
+ParamBroken kind scope e old before p = TypeBroken scope p.ty e ⊎ ((v : Meaning) × HasType scope p.ty v
+    × IsRepeated old p.id.string (duplicate_parameter kind p.id.string p.id.span) e)
 
 abbrev pub ParamsBroken : FuncKind → Scope → Named Meaning → List NamedType → Error → Type 0
 ParamsBroken kind scope first ps e = Fails (HasParam scope) (ParamBroken kind scope e) first ps
@@ -67,16 +74,13 @@ abbrev pub IsBorrowInResult : Scope → Ty → Error → Type 0
 IsBorrowInResult scope t e = (v : Meaning) × HasType scope t v × (contains_borrow v ≡ true)
     × (e ≡ borrow_in_result (ty_span t))
 
--- an earlier result has the name
-abbrev pub IsRepeatedResult : FuncKind → Named Meaning → Ident → Error → Type 0
-IsRepeatedResult kind old x e = (v : Meaning) × StandsFor old x.string v × (e ≡ duplicate_result kind x.string x.span)
-
 abbrev pub ResultTypeBroken : Scope → Ty → Error → Type 0
 ResultTypeBroken scope t e = TypeBroken scope t e ⊎ IsBorrowInResult scope t e
 
+-- the result's type is none of a result, or an earlier one has its name
 abbrev pub ResultBroken : FuncKind → Scope → Error → Named Meaning → List NamedType → NamedType → Type 0
-ResultBroken kind scope e old before r = ResultTypeBroken scope r.ty e
-    ⊎ ((v : Meaning) × HasResultType scope r.ty v × IsRepeatedResult kind old r.id e)
+ResultBroken kind scope e old before r = ResultTypeBroken scope r.ty e ⊎ ((v : Meaning) × HasResultType scope r.ty v
+    × IsRepeated old r.id.string (duplicate_result kind r.id.string r.id.span) e)
 
 abbrev pub ResultsBroken : FuncKind → Scope → ResultList → Error → Type 0
 ResultsBroken kind scope ResultList.empty e = ⊥

@@ -14,27 +14,21 @@ use Rattle.wac_ast_grammar.specs.Spans.{world_ref_name, world_ref_span}
 use Rattle.wac_resolution_errors.specs.Error.{Error, not_func_or_interface, duplicate_world_include_name, not_world, missing_world_include, world_include_conflict, not_func_type, declaration_conflict, duplicate_name}
 use Rattle.wac_resolution_rules.specs.Paths.{Context, LeadsTo, WorldNames}
 use Rattle.wac_resolution_rules.specs.Bodies.{Body, empty_body, externs}
-use Rattle.wac_resolution_rules.specs.Includes.{Entries, HasEntry, has_colon, Taking, name_taken, Takes, HasInclude}
-use Rattle.wac_resolution_rules.specs.Worlds.{IsFuncRef, HasInterfaceItem, IsInterface, id_or_empty, HasWorldItem, includes_of, IsWorld}
-use Rattle.wac_resolution_rules.specs.TypeStatements.{declared_id}
-use Rattle.wac_resolution_rules.specs.Declarations.{IsTypeDecl}
+use Rattle.wac_resolution_rules.specs.Includes.{Entries, HasEntry, has_colon, Taking, taking, name_taken, Takes, HasInclude}
+use Rattle.wac_resolution_rules.specs.Worlds.{IsFuncRef, HasInterfaceItem, id_or_empty, HasWorldItem, includes_of}
+use Rattle.wac_resolution_rules.specs.TypeStatements.{identifier_of, DeclaresKind}
 use Rattle.wac_resolution_rules.specs.Composition.{Composition, root_scope}
-use Rattle.wac_resolution_rules.specs.BrokenTypes.{IsUndefined, FuncBroken}
+use Rattle.wac_resolution_rules.specs.BrokenTypes.{IsUndefined, DenotesNo, IsRepeated, IsTaken, FuncBroken}
 use Rattle.wac_resolution_rules.specs.BrokenDeclarations.{TypeDeclBroken}
 use Rattle.wac_resolution_rules.specs.BrokenBodies.{Owner, of_interface, of_world, PathBroken, IsConflict, ItemBroken, UseBroken, IsNoInterface}
-use Rattle.wac_resolution_rules.specs.Spans.{identifier_of}
 use Rattle.wac_resolution_rules.specs.Places.{Places, bound_in_interface, bound_in_world}
 
 -- ---- interfaces
 
--- what the identifier denotes is neither a function nor a function type
-abbrev pub IsNoFunc : Scope → Ident → Error → Type 0
-IsNoFunc scope x e = (k : Meaning) × StandsFor scope x.string k × IsNoneOf is_func_form k
-    × (e ≡ not_func_type x.string (described k) x.span)
-
 abbrev pub FuncRefBroken : Scope → FuncTypeRef → Error → Type 0
 FuncRefBroken scope (FuncTypeRef.func f) e = FuncBroken funcs.Free scope [] f e
-FuncRefBroken scope (FuncTypeRef.ident x) e = IsUndefined scope x e ⊎ IsNoFunc scope x e
+FuncRefBroken scope (FuncTypeRef.ident x) e = IsUndefined scope x e
+    ⊎ DenotesNo is_func_form not_func_type scope x e
 
 abbrev pub InterfaceItemBroken : Context → Scope → Owner → Error → Body → List InterfaceItem → InterfaceItem → Type 0
 InterfaceItemBroken context root of e old before (InterfaceItem.use_statement u) =
@@ -51,14 +45,9 @@ InterfaceBroken context root name n items e =
 
 -- ---- items of worlds
 
--- what the identifier denotes is neither a function type nor an interface
-abbrev pub IsNoFuncOrInterface : Scope → Ident → Error → Type 0
-IsNoFuncOrInterface scope x e = (k : Meaning) × StandsFor scope x.string k × IsNoneOf is_func_or_interface_form k
-    × (e ≡ not_func_or_interface x.string (described k) x.span)
-
 abbrev pub ExternTypeBroken : Context → Scope → Scope → ℕ → ExternType → Error → Type 0
 ExternTypeBroken context root scope n (ExternType.ident x) e = IsUndefined (scope ++ root) x e
-    ⊎ IsNoFuncOrInterface (scope ++ root) x e
+    ⊎ DenotesNo is_func_or_interface_form not_func_or_interface (scope ++ root) x e
 ExternTypeBroken context root scope n (ExternType.func f) e = FuncBroken funcs.Free scope [] f e
 ExternTypeBroken context root scope n (ExternType.interface i) e = InterfaceBroken context root None n i.items e
 
@@ -89,8 +78,8 @@ WorldItemBroken context root of e old before (WorldItem.ty d) =
 
 -- an earlier entry renames the same name
 abbrev pub IsSecondEntry : Error → Entries → List WorldIncludeItem → WorldIncludeItem → Type 0
-IsSecondEntry e old before x = (to : List ℕ) × StandsFor old x.from.string to
-    × (e ≡ duplicate_world_include_name x.from.string x.from.span)
+IsSecondEntry e old before x =
+    IsRepeated old x.from.string (duplicate_world_include_name x.from.string x.from.span) e
 
 abbrev pub WorldRefBroken : Context → Scope → WorldRef → Error → Type 0
 WorldRefBroken context root (WorldRef.path p) e = PathBroken context root p e
@@ -137,13 +126,10 @@ IsLeftOver x (left ∷ more) e = (i : WorldIncludeItem) × (entry_named left.0 x
 -- taking over the names of a world
 abbrev pub TakingBroken : WorldInclude → List ℕ → Entries → Meaning → Body → Error → Type 0
 TakingBroken x world entries entry old e =
-    Fails Takes (IsIncludeConflict x world sides.Import e) (record { entries = entries; there = old.imports })
-    (imports_of entry)
-    ⊎ ((a : Taking) × Steps Takes (record { entries = entries; there = old.imports }) (imports_of entry) a
-    × (Fails Takes (IsIncludeConflict x world sides.Export e) (record { entries = a.entries; there = old.exports })
-    (exports_of entry)
-    ⊎ ((b : Taking) × Steps Takes (record { entries = a.entries; there = old.exports }) (exports_of entry) b
-    × IsLeftOver x b.entries e)))
+    Fails Takes (IsIncludeConflict x world sides.Import e) (taking entries old.imports) (imports_of entry)
+    ⊎ ((a : Taking) × Steps Takes (taking entries old.imports) (imports_of entry) a
+    × (Fails Takes (IsIncludeConflict x world sides.Export e) (taking a.entries old.exports) (exports_of entry)
+    ⊎ ((b : Taking) × Steps Takes (taking a.entries old.exports) (exports_of entry) b × IsLeftOver x b.entries e)))
 
 abbrev pub IncludeBroken : Context → Scope → List ℕ → Error → Body → List WorldInclude → WorldInclude → Type 0
 IncludeBroken context root world e old before x =
@@ -164,13 +150,11 @@ WorldBroken context root name n items e =
 
 -- the name was exported
 abbrev pub IsExported : Composition → Places → Ident → Error → Type 0
-IsExported old places x e = (n : ℕ) × (at : Span) × StandsFor old.exports x.string n
-    × StandsFor places.exported x.string at × (e ≡ declaration_conflict x.string x.span at)
+IsExported old places x e = IsTaken old.exports places.exported x.string (declaration_conflict x.string x.span) e
 
 -- the identifier is bound at root already
 abbrev pub IsBound : Composition → Places → Ident → Error → Type 0
-IsBound old places x e = (n : ℕ) × (previous : Span) × StandsFor old.declared x.string n
-    × StandsFor places.bound x.string previous × (e ≡ duplicate_name x.string x.span previous)
+IsBound old places x e = IsTaken old.declared places.bound x.string (duplicate_name x.string x.span) e
 
 abbrev pub DefinitionBroken : Composition → Places → Ident → Error → Type 0
 DefinitionBroken old places x e = IsExported old places x e ⊎ (IsFresh x.string old.exports × IsBound old places x e)
@@ -183,15 +167,7 @@ KindBroken context old (TypeStatement.world d) e =
     WorldBroken context (root_scope old) d.id.string old.resources d.items e
 KindBroken context old (TypeStatement.ty d) e = TypeDeclBroken (root_scope old) old.resources d e
 
--- the declared type has a meaning
-abbrev pub HasKind : Context → Composition → TypeStatement → Type 0
-HasKind context old (TypeStatement.interface d) = (entry : Meaning) × (n : ℕ)
-    × IsInterface context (root_scope old) old.resources (declared_id context d.id.string) d.items entry n
-HasKind context old (TypeStatement.world d) = (entry : Meaning) × (n : ℕ)
-    × IsWorld context (root_scope old) old.resources (declared_id context d.id.string) d.items entry n
-HasKind context old (TypeStatement.ty d) = (m : Meaning) × (n : ℕ) × IsTypeDecl (root_scope old) old.resources d m n
-
 -- a type statement breaks the rule that the error names
 abbrev pub DeclarationBroken : Context → Composition → Places → TypeStatement → Error → Type 0
 DeclarationBroken context old places s e = KindBroken context old s e
-    ⊎ (HasKind context old s × DefinitionBroken old places (identifier_of s) e)
+    ⊎ ((m : Meaning) × (n : ℕ) × DeclaresKind context old s m n × DefinitionBroken old places (identifier_of s) e)

@@ -54,11 +54,10 @@ abbrev pub Counted : Type 0
 Counted = Meaning × ℕ
 
 abbrev pub alias_of_form : Option Form → Meaning → Option Meaning
-alias_of_form None k = None
 alias_of_form (Some (a_value v)) k = Some (alias_type (as_value k))
 alias_of_form (Some a_func) k = Some (kind_of a_func (entry_of k))
 alias_of_form (Some func) k = Some (kind_of a_func (entry_of k))
-alias_of_form (Some _) k = None
+alias_of_form _ k = None
 
 -- another name of a kind: of a type of values a type of its own, of a function or function type a copy
 abbrev pub alias_of : Meaning → Option Meaning

@@ -93,10 +93,8 @@ Spreads imports old id new = (node : ℕ) × (i : Meaning) × StandsFor old.comp
 
 -- the spreads among the arguments, in order
 abbrev pub spread_of : InstantiationArgument → List Ident
-spread_of (InstantiationArgument.fill s) = []
 spread_of (InstantiationArgument.spread x) = x ∷ []
-spread_of (InstantiationArgument.named name x) = []
-spread_of (InstantiationArgument.inferred x) = []
+spread_of _ = []
 
 abbrev pub spreads_of : Arguments → List Ident
 spreads_of Arguments.none = []
@@ -104,9 +102,7 @@ spreads_of (Arguments.more a rest) = spread_of a ++ spreads_of rest
 
 abbrev pub is_fill : InstantiationArgument → Bool
 is_fill (InstantiationArgument.fill s) = true
-is_fill (InstantiationArgument.spread x) = false
-is_fill (InstantiationArgument.named name x) = false
-is_fill (InstantiationArgument.inferred x) = false
+is_fill _ = false
 
 abbrev pub has_fill : Arguments → Bool
 has_fill Arguments.none = false

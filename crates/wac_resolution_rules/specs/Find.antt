@@ -15,9 +15,8 @@ is_short_for name text = list_any is_slash text && bytes_eq name (before_first i
 
 -- the only element, if there is just one
 abbrev pub only_one : {X : Type 0} → List X → Option X
-only_one [] = None
 only_one (x ∷ []) = Some x
-only_one (x ∷ y ∷ xs) = None
+only_one _ = None
 
 -- the names that it is short for
 abbrev pub long_names : List ℕ → List (List ℕ) → List (List ℕ)

@@ -26,6 +26,9 @@ pub record Taking : Type 0 where
   pub entries : Entries
   pub there : Named Meaning
 
+abbrev pub taking : Entries → Named Meaning → Taking
+taking entries there = record { entries = entries; there = there }
+
 -- one more name, unless it exists already
 abbrev pub with_missing : Named Meaning → List ℕ → Meaning → Named Meaning
 with_missing there name m = elim (look_up name there) [ None ↦ with_named there name m | Some old ↦ there ]
@@ -36,14 +39,9 @@ name_taken entries name = unwrap_or (look_up name entries) name
 
 -- one name of the included world; the test is whether it has a colon
 abbrev pub TakesNamed : Bool → Taking → List ℕ × Meaning → Taking → Type 0
-TakesNamed true old x new = new ≡ record { entries = old.entries; there = with_missing old.there x.0 x.1 }
-TakesNamed false old x new =
-    IsFresh (name_taken old.entries x.0) old.there
-    × (new ≡ record {
-      entries = without_first x.0 old.entries;
-      there = with_named old.there (name_taken old.entries x.0)
-          x.1;
-    })
+TakesNamed true old x new = new ≡ taking old.entries (with_missing old.there x.0 x.1)
+TakesNamed false old x new = IsFresh (name_taken old.entries x.0) old.there
+    × (new ≡ taking (without_first x.0 old.entries) (with_named old.there (name_taken old.entries x.0) x.1))
 
 -- A name with a colon is taken as it is, unless it exists already. Another name is renamed by the first entry for it,
 -- which is then used up; the new name may not exist yet.
@@ -54,8 +52,8 @@ Takes old x new = TakesNamed (has_colon x.0) old x new
 pub record Included (entries : Entries) (world : Meaning) (old new : Body) : Type 0 where
   pub imports : Taking
   pub exports : Taking
-  pub takes_imports : Steps Takes (record { entries = entries; there = old.imports }) (imports_of world) imports
-  pub takes_exports : Steps Takes (record { entries = imports.entries; there = old.exports }) (exports_of world) exports
+  pub takes_imports : Steps Takes (taking entries old.imports) (imports_of world) imports
+  pub takes_exports : Steps Takes (taking imports.entries old.exports) (exports_of world) exports
   pub none_left : exports.entries ≡ []
   pub is : new ≡ record old { imports = imports.there; exports = exports.there }
 

@@ -31,16 +31,14 @@ use_path_mentions own (UsePath.ident x) = []
 
 abbrev pub interface_item_mentions : List ℕ → InterfaceItem → List Mention
 interface_item_mentions own (InterfaceItem.use_statement u) = use_path_mentions own u.path
-interface_item_mentions own (InterfaceItem.interface_export x) = []
-interface_item_mentions own (InterfaceItem.ty d) = []
+interface_item_mentions own _ = []
 
 abbrev pub interface_mentions : List ℕ → List InterfaceItem → List Mention
 interface_mentions own items = flat_map (interface_item_mentions own) items
 
 abbrev pub extern_type_mentions : List ℕ → ExternType → List Mention
-extern_type_mentions own (ExternType.ident x) = []
-extern_type_mentions own (ExternType.func x) = []
 extern_type_mentions own (ExternType.interface x) = interface_mentions own x.items
+extern_type_mentions own _ = []
 
 abbrev pub extern_mentions : List ℕ → WorldItemPath → List Mention
 extern_mentions own (WorldItemPath.path p) = path_mentions own p
@@ -79,18 +77,15 @@ abbrev mutual
   arguments_mentions own (Arguments.more a rest) = argument_mentions own a ++ arguments_mentions own rest
 
   pub argument_mentions : List ℕ → InstantiationArgument → List Mention
-  argument_mentions own (InstantiationArgument.fill span) = []
-  argument_mentions own (InstantiationArgument.spread id) = []
   argument_mentions own (InstantiationArgument.named name x) = expr_mentions own x
-  argument_mentions own (InstantiationArgument.inferred id) = []
+  argument_mentions own _ = []
 
 -- ---- documents
 
 abbrev pub import_type_mentions : List ℕ → ImportType → List Mention
-import_type_mentions own (ImportType.func x) = []
 import_type_mentions own (ImportType.interface x) = interface_mentions own x.items
 import_type_mentions own (ImportType.path x) = path_mentions own x
-import_type_mentions own (ImportType.ident x) = []
+import_type_mentions own _ = []
 
 abbrev pub statement_mentions : List ℕ → Statement → List Mention
 statement_mentions own (Statement.import_statement x) = import_type_mentions own x.ty

@@ -23,35 +23,25 @@ instance_at c i = instance_of (kind_at c.nodes i)
 
 abbrev pub import_name : NodeForm → Option (List ℕ)
 import_name (imported name) = Some name
-import_name definition = None
-import_name (aliased node name) = None
-import_name (instantiated key) = None
+import_name _ = None
 
 -- the name of the export whose alias a node is
 abbrev pub alias_name : NodeForm → Option (List ℕ)
-alias_name (imported name) = None
-alias_name definition = None
 alias_name (aliased node name) = Some name
-alias_name (instantiated key) = None
+alias_name _ = None
 
 abbrev pub is_definition : NodeForm → Bool
-is_definition (imported name) = false
 is_definition definition = true
-is_definition (aliased node name) = false
-is_definition (instantiated key) = false
+is_definition _ = false
 
 -- the package that a node is an instance of
 abbrev pub key_of_node : NodeForm → Option Key
-key_of_node (imported name) = None
-key_of_node definition = None
-key_of_node (aliased node name) = None
 key_of_node (instantiated key) = Some key
+key_of_node _ = None
 
 abbrev pub is_alias_of : ℕ → List ℕ → NodeForm → Bool
-is_alias_of node name (imported other) = false
-is_alias_of node name definition = false
 is_alias_of node name (aliased n other) = nat_eq n node && bytes_eq other name
-is_alias_of node name (instantiated key) = false
+is_alias_of node name _ = false
 
 -- the imports are read off the nodes: each name and the kind of its node
 abbrev pub import_of : Node → Option (List ℕ × Meaning)

@@ -5,7 +5,8 @@ use Rattle.wac_lexer.specs.Span.{Span}
 use Rattle.wac_graph_types.specs.Scope.{Named}
 use Rattle.wac_ast_grammar.specs.Tree.{Ident, UseItem, InterfaceItem, WorldItem, Statement}
 use Rattle.wac_resolution_rules.specs.Bodies.{used_as}
-use Rattle.wac_resolution_rules.specs.Spans.{item_identifier, identifier_of, import_span, export_span}
+use Rattle.wac_resolution_rules.specs.TypeStatements.{identifier_of}
+use Rattle.wac_resolution_rules.specs.Spans.{item_identifier, import_span, export_span}
 use Rattle.wac_resolution_rules.specs.Given.{Given}
 use Rattle.wac_resolution_rules.specs.Composition.{Composition}
 use Rattle.wac_resolution_rules.specs.Nodes.{imports}
@@ -27,10 +28,8 @@ bound_in_interface_item (InterfaceItem.ty d) = at_ident (item_identifier d) ∷ 
 
 abbrev pub bound_in_world_item : WorldItem → Named Span
 bound_in_world_item (WorldItem.use_statement u) = used_at u.items
-bound_in_world_item (WorldItem.world_import x) = []
-bound_in_world_item (WorldItem.world_export x) = []
-bound_in_world_item (WorldItem.world_include x) = []
 bound_in_world_item (WorldItem.ty d) = at_ident (item_identifier d) ∷ []
+bound_in_world_item _ = []
 
 -- what the items of a body bind to types, and where
 abbrev pub bound_in_interface : List InterfaceItem → Named Span
@@ -54,24 +53,17 @@ nowhere_yet = record { bound = []; imported = []; exported = [] }
 abbrev pub names_at : {X : Type 0} → Span → Named X → Named Span
 names_at span names = map (λ x. (x.0, span)) names
 
--- the span of what a statement binds; any span where it binds nothing
+-- the span of the name that a statement imports or exports; any span where it does neither
+abbrev pub extern_at : Statement → Span
+extern_at (Statement.import_statement x) = import_span x
+extern_at (Statement.let_statement x) = x.id.span
+extern_at (Statement.export_statement x) = export_span x
+extern_at (Statement.type_statement x) = (identifier_of x).span
+
+-- the span of what a statement binds: of an import its identifier's; any span where it binds nothing
 abbrev pub bound_at : Statement → Span
 bound_at (Statement.import_statement x) = x.id.span
-bound_at (Statement.let_statement x) = x.id.span
-bound_at (Statement.export_statement x) = export_span x
-bound_at (Statement.type_statement x) = (identifier_of x).span
-
-abbrev pub imported_at : Statement → Span
-imported_at (Statement.import_statement x) = import_span x
-imported_at (Statement.let_statement x) = x.id.span
-imported_at (Statement.export_statement x) = export_span x
-imported_at (Statement.type_statement x) = (identifier_of x).span
-
-abbrev pub exported_at : Statement → Span
-exported_at (Statement.import_statement x) = import_span x
-exported_at (Statement.let_statement x) = x.id.span
-exported_at (Statement.export_statement x) = export_span x
-exported_at (Statement.type_statement x) = (identifier_of x).span
+bound_at x = extern_at x
 
 -- the names that the new list adds, at a span
 abbrev pub more_at : {X : Type 0} → Span → Named X → Named X → Named Span
@@ -81,8 +73,8 @@ more_at span old new = names_at span (drop (length old) new)
 abbrev pub places_after : Composition → Places → Statement → Composition → Places
 places_after old p x new = record {
   bound = p.bound ++ more_at (bound_at x) old.declared new.declared;
-  imported = p.imported ++ more_at (imported_at x) (imports old) (imports new);
-  exported = p.exported ++ more_at (exported_at x) old.exports new.exports;
+  imported = p.imported ++ more_at (extern_at x) (imports old) (imports new);
+  exported = p.exported ++ more_at (extern_at x) old.exports new.exports;
 }
 
 -- a composition and its places

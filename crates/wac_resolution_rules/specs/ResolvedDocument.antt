@@ -6,8 +6,9 @@ use Rattle.wac_graph_types.specs.Package.{PackageParts}
 use Rattle.wac_graph.specs.Origin.{Naming, IsOneToOne}
 use Rattle.wac_graph.specs.Package.{Key}
 use Rattle.wac_graph.specs.Packages.{handed}
-use Rattle.wac_ast_grammar.specs.Tree.{PackagePath, Statement, Document}
+use Rattle.wac_ast_grammar.specs.Tree.{PackageName, PackagePath, Statement, Document}
 use Rattle.wac_ast_grammar.specs.Version.{version_text}
+use Rattle.wac_resolution_rules.specs.Paths.{Context}
 use Rattle.wac_resolution_rules.specs.Given.{Given, Rules}
 use Rattle.wac_resolution_rules.specs.Composition.{Composition, start}
 use Rattle.wac_resolution_rules.specs.Statements.{StatementStep, Composes}
@@ -16,18 +17,15 @@ use Rattle.wac_resolution_errors.specs.Error.{Error, Reports, memory}
 use Rattle.wac_resolution_rules.specs.BrokenStatements.{StatementBroken, TargetBroken}
 use Rattle.wac_resolution_rules.specs.Places.{Leads, Placed, placed_start}
 
--- what a document is resolved with: the given packages, by what they mean, and the rules
+-- the context of a document of this package: the given packages, by what they mean
+abbrev pub context_within : Naming → List (Key × PackageParts) → PackageName → Context
+context_within naming packages own =
+    record { naming = naming; own = own.name; version = version_text own.string; packages = handed naming packages }
+
+-- what a document is resolved with
 abbrev pub given_to : Naming → List (Key × PackageParts) → Rules → Document → Given
-given_to naming packages rules doc = record {
-  context = record {
-    naming = naming;
-    own = doc.directive.package_name.name;
-    version = version_text
-        doc.directive.package_name.string;
-    packages = handed naming packages;
-  };
-  rules = rules;
-}
+given_to naming packages rules doc =
+    record { context = context_within naming packages doc.directive.package_name; rules = rules }
 
 -- the document's statements have this composition, and the target allows it
 abbrev pub Describes : Given → Document → Composition → Type 0

@@ -6,7 +6,7 @@ use Rattle.wac_graph_types.specs.Scope.{Named, IsFresh}
 use Rattle.wac_graph.specs.Package.{Key}
 use Rattle.wac_graph.specs.Packages.{Contents, package_of}
 use Rattle.wac_resolution_rules.specs.Given.{Given, imports_in}
-use Rattle.wac_resolution_rules.specs.Composition.{NodeForm, imported, definition, aliased, instantiated, Node, Composition}
+use Rattle.wac_resolution_rules.specs.Composition.{NodeForm, aliased, Node, Composition}
 use Rattle.wac_resolution_rules.specs.Nodes.{key_of_node, is_alias_of, imports}
 use Rattle.wac_resolution_rules.specs.Expressions.{Fits}
 
@@ -23,10 +23,8 @@ pub record NamesOnce (c : Composition) : Type 0 where
 
 -- an alias is of an earlier node
 abbrev pub IsAfterSource : ℕ → NodeForm → Type 0
-IsAfterSource i (imported name) = Unit {0}
-IsAfterSource i definition = Unit {0}
 IsAfterSource i (aliased node name) = node < i
-IsAfterSource i (instantiated key) = Unit {0}
+IsAfterSource i _ = Unit {0}
 
 -- the arguments of an instance are for imports of its package, and fit them
 abbrev pub ArgumentsFit : Given → List Node → Option Key → Named ℕ → Type 0
@@ -54,10 +52,8 @@ pub record IsSound (s : Given) (c : Composition) : Type 0 where
 -- ---- growth
 
 abbrev pub IsAlias : NodeForm → Type 0
-IsAlias (imported name) = ⊥
-IsAlias definition = ⊥
 IsAlias (aliased node name) = Unit {0}
-IsAlias (instantiated key) = ⊥
+IsAlias _ = ⊥
 
 -- the node is the same, but an alias node without a name may have one now
 pub record IsKept (a b : Node) : Type 0 where
@@ -82,10 +78,8 @@ pub record Begins (old new : Composition) : Type 0 where
 
 -- the second form is an alias of what the first is an alias of
 abbrev pub is_same_alias : NodeForm → NodeForm → Bool
-is_same_alias (imported name) f = false
-is_same_alias definition f = false
 is_same_alias (aliased node name) f = is_alias_of node name f
-is_same_alias (instantiated key) f = false
+is_same_alias _ f = false
 
 -- an alias of an export of a node occurs once
 abbrev pub AliasesOnce : List Node → Type 0

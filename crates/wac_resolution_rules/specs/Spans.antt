@@ -1,9 +1,8 @@
 -- Where the parts of a tree are, and the identifiers and texts that name them.
 use Rattle.std.specs.Prelude.{ℕ, List, Some, None}
 use Rattle.wac_lexer.specs.Span.{Span}
-use Rattle.wac_ast_grammar.specs.Tree.{Ident, UsePath, ItemTypeDecl, TypeStatement, ImportType, ImportStatement, Expr, ExportOptions, ExportStatement}
+use Rattle.wac_ast_grammar.specs.Tree.{Ident, UsePath, ItemTypeDecl, ImportType, ImportStatement, Expr, ExportOptions, ExportStatement}
 use Rattle.wac_ast_grammar.specs.Spans.{extern_name_span}
-use Rattle.wac_resolution_rules.specs.TypeStatements.{declared_as}
 
 -- ---- types and declarations
 
@@ -14,12 +13,6 @@ item_identifier (ItemTypeDecl.record_decl d) = d.id
 item_identifier (ItemTypeDecl.flags d) = d.id
 item_identifier (ItemTypeDecl.enum d) = d.id
 item_identifier (ItemTypeDecl.alias d) = d.id
-
--- the identifier of a type statement
-abbrev pub identifier_of : TypeStatement → Ident
-identifier_of (TypeStatement.interface d) = d.id
-identifier_of (TypeStatement.world d) = d.id
-identifier_of (TypeStatement.ty d) = declared_as d
 
 -- the text by which an interface is named
 abbrev pub use_path_name : UsePath → List ℕ
@@ -36,10 +29,8 @@ abbrev pub expr_span : Expr → Span
 expr_span (Expr.expr span first others) = span
 
 abbrev pub unnamed_import_span : Ident → ImportType → Span
-unnamed_import_span id (ImportType.func x) = id.span
-unnamed_import_span id (ImportType.interface x) = id.span
 unnamed_import_span id (ImportType.path x) = x.span
-unnamed_import_span id (ImportType.ident x) = id.span
+unnamed_import_span id _ = id.span
 
 -- where an import's name is: after `as`, else the path, else the identifier
 abbrev pub import_span : ImportStatement → Span

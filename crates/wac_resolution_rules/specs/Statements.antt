@@ -36,10 +36,9 @@ item_id k = option_and_then id_of (option_or (instance_of k) (component_of k))
 -- a path by its text; an identifier that denotes an instance or component with an id by that id; else the import's own
 -- identifier
 abbrev pub unnamed_import : Ident → ImportType → Meaning → List ℕ
-unnamed_import id (ImportType.func x) k = id.string
-unnamed_import id (ImportType.interface x) k = id.string
 unnamed_import id (ImportType.path x) k = x.string
 unnamed_import id (ImportType.ident x) k = unwrap_or (item_id k) id.string
+unnamed_import id _ k = id.string
 
 -- the name under which a statement imports
 abbrev pub name_imported : ImportStatement → Meaning → List ℕ

@@ -26,6 +26,22 @@ declared_as (TypeDecl.flags d) = d.id
 declared_as (TypeDecl.enum d) = d.id
 declared_as (TypeDecl.alias d) = d.id
 
+-- the identifier of a type statement
+abbrev pub identifier_of : TypeStatement → Ident
+identifier_of (TypeStatement.interface d) = d.id
+identifier_of (TypeStatement.world d) = d.id
+identifier_of (TypeStatement.ty d) = declared_as d
+
+-- the kind that a type statement declares, and how many resources are declared then
+abbrev pub DeclaresKind : Context → Composition → TypeStatement → Meaning → ℕ → Type 0
+DeclaresKind context old (TypeStatement.interface d) m n =
+    (entry : Meaning) × IsInterface context (root_scope old) old.resources (declared_id context d.id.string) d.items
+    entry n × (m ≡ kind_of an_interface entry)
+DeclaresKind context old (TypeStatement.world d) m n =
+    (entry : Meaning) × IsWorld context (root_scope old) old.resources (declared_id context d.id.string) d.items entry n
+    × (m ≡ kind_of a_world entry)
+DeclaresKind context old (TypeStatement.ty d) m n = IsTypeDecl (root_scope old) old.resources d m n
+
 -- a definition of this name and kind, exported under the name and bound to it
 abbrev pub defining : Composition → List ℕ → Meaning → ℕ → Composition
 defining c name m n =
@@ -37,14 +53,5 @@ Defines old name m n new = IsFresh name old.exports × IsFresh name old.declared
 
 -- a type statement turns the old composition into the new one
 abbrev pub Declares : Context → Composition → TypeStatement → Composition → Type 0
-Declares context old (TypeStatement.interface d) new =
-    (entry : Meaning) × (n : ℕ)
-    × IsInterface context (root_scope old) old.resources (declared_id context d.id.string) d.items entry n
-    × Defines old d.id.string (kind_of an_interface entry) n new
-Declares context old (TypeStatement.world d) new =
-    (entry : Meaning) × (n : ℕ)
-    × IsWorld context (root_scope old) old.resources (declared_id context d.id.string) d.items entry n
-    × Defines old d.id.string (kind_of a_world entry) n new
-Declares context old (TypeStatement.ty d) new =
-    (m : Meaning) × (n : ℕ) × IsTypeDecl (root_scope old) old.resources d m n
-    × Defines old (declared_as d).string m n new
+Declares context old s new = (m : Meaning) × (n : ℕ) × DeclaresKind context old s m n
+    × Defines old (identifier_of s).string m n new

@@ -24,10 +24,10 @@ pub use Rattle.wac_graph_types.specs.declared.kind.FuncTypeId.{FuncTypeId}
 pub use Rattle.wac_graph_types.specs.declared.kind.ItemKind.{ItemKind}
 pub use Rattle.wac_graph_types.specs.declared.kind.ValueType.{ValueType}
 pub use Rattle.wac_resolution_errors.proofs.Reports.{reports}
-pub use Rattle.wac_resolution_errors.specs.Error.{Error, borrow_in_result}
+pub use Rattle.wac_resolution_errors.specs.Error.{Error, borrow_in_result, duplicate_enum_case, duplicate_flag}
 pub use Rattle.wac_resolution_errors.specs.Told.{told}
 pub use Rattle.wac_resolution_rules.proofs.StepLaws.{fails_at_map, steps_on_map}
-pub use Rattle.wac_resolution_rules.specs.BrokenDeclarations.{AliasBroken, CaseBroken, FieldBroken, IsRepeatedEnumCase, IsRepeatedFlag, OptionBroken, TypeAliasBroken, TypeDeclBroken}
+pub use Rattle.wac_resolution_rules.specs.BrokenDeclarations.{AliasBroken, CaseBroken, FieldBroken, IsRepeatedPart, OptionBroken, TypeAliasBroken, TypeDeclBroken}
 pub use Rattle.wac_resolution_rules.specs.BrokenTypes.{FuncBroken, OptionalBroken, ParamBroken, ParamsBroken, ResultBroken, ResultTypeBroken, ResultsBroken, TypeBroken, TypesBroken}
 pub use Rattle.wac_resolution_rules.specs.Declarations.{HasCase, HasEnumCase, HasField, HasFlag, HasOption, IsAlias, IsEnum, IsFlags, IsRecord, IsTypeAlias, IsTypeDecl, IsVariant, alone}
 pub use Rattle.wac_resolution_rules.specs.Types.{HasOptional, HasParam, HasResult, HasResultType, HasResults, HasType, HaveTypes, IsFuncWith, first_params}

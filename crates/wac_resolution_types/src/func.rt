@@ -12,8 +12,9 @@ ghost use Rattle.wac_ast_types.specs.Declarations.{named_type_of, func_type_of};
 ghost use Rattle.wac_graph.specs.Graph.{Parts};
 ghost use Rattle.wac_graph.specs.Means.{entry_means};
 ghost use Rattle.wac_graph.specs.Origin.{Naming};
+ghost use Rattle.wac_resolution_errors.specs.Error.{duplicate_parameter};
 ghost use Rattle.wac_resolution_rules.specs.Types.{first_params};
-ghost use Rattle.wac_resolution_rules.specs.BrokenTypes.{IsRepeatedParameter, ParamBroken, ParamsBroken, FuncBroken};
+ghost use Rattle.wac_resolution_rules.specs.BrokenTypes.{IsRepeated, ParamBroken, ParamsBroken, FuncBroken};
 ghost use Rattle.wac_resolution_rules.specs.BrokenBodies.{method_kind};
 ghost use Rattle.wac_resolution_rules.specs.Errors.{ErrorSays};
 ghost use Rattle.wac_resolution_state.specs.Bindings.{values_of};
@@ -42,7 +43,8 @@ fn check_param(
 ) -> Result<(), Error>
     ensures ok { OnOk result (IsFresh id.now.string.now (by_name all.now.entries)) }
     ensures err { ErrorSays result (λ e. (naming : Naming) (g : Parts)
-        → IsRepeatedParameter kind (types_named naming g (by_name all.now.entries)) (ident_of id.now) e) }
+        → IsRepeated (types_named naming g (by_name all.now.entries)) (ident_of id.now).string
+        (duplicate_parameter kind (ident_of id.now).string (ident_of id.now).span) e) }
 {
     match find(all, id.string) {
         Some(_) => Err(Error::DuplicateParameter {

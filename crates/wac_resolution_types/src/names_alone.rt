@@ -5,8 +5,9 @@ ghost use Rattle.std.specs.Str.{bytes_eq};
 ghost use Rattle.wac_graph_types.specs.Steps.{Steps, Fails};
 ghost use Rattle.wac_ast_base.specs.Names.{ident_of};
 ghost use Rattle.wac_ast_types.specs.Declarations.{flag_of, flags_decl_of, enum_case_of, enum_decl_of};
+ghost use Rattle.wac_resolution_errors.specs.Error.{duplicate_flag, duplicate_enum_case};
 ghost use Rattle.wac_resolution_rules.specs.Declarations.{HasFlag, HasEnumCase, IsFlags, IsEnum};
-ghost use Rattle.wac_resolution_rules.specs.BrokenDeclarations.{IsRepeatedFlag, IsRepeatedEnumCase, FlagsBroken, EnumBroken};
+ghost use Rattle.wac_resolution_rules.specs.BrokenDeclarations.{IsRepeatedPart, FlagsBroken, EnumBroken};
 ghost use Rattle.wac_resolution_rules.specs.Errors.{ErrorSays};
 ghost use Rattle.wac_resolution_types.specs.Declarations.{names_alone, ValueAdded};
 
@@ -35,7 +36,7 @@ fn check_flag(
     id: &Ident<'_>,
 ) -> Result<(), Error>
     ensures ok { OnOk result (list_any (bytes_eq id.now.string.now) (map string_bytes all.now.keys) ≡ false) }
-    ensures err { ErrorSays result (λ e. IsRepeatedFlag (ident_of declared.now)
+    ensures err { ErrorSays result (λ e. IsRepeatedPart duplicate_flag (ident_of declared.now)
         (names_alone all.now.keys) (ident_of id.now) e) }
 {
     if has_name(all, id.string) {
@@ -57,7 +58,7 @@ fn check_enum_case(
     id: &Ident<'_>,
 ) -> Result<(), Error>
     ensures ok { OnOk result (list_any (bytes_eq id.now.string.now) (map string_bytes all.now.keys) ≡ false) }
-    ensures err { ErrorSays result (λ e. IsRepeatedEnumCase (ident_of declared.now)
+    ensures err { ErrorSays result (λ e. IsRepeatedPart duplicate_enum_case (ident_of declared.now)
         (names_alone all.now.keys) (ident_of id.now) e) }
 {
     if has_name(all, id.string) {
@@ -79,8 +80,8 @@ fn flag(
     flag: &Flag<'_>,
 ) -> Result<(), Error>
     ensures ok { OnOk result (HasFlag (names_alone all.old.keys) (flag_of flag.now) (names_alone all.new.keys)) }
-    ensures err { ErrorSays result (λ e. IsRepeatedFlag (ident_of declared.now) (names_alone all.old.keys)
-        (ident_of flag.now.id) e) }
+    ensures err { ErrorSays result (λ e. IsRepeatedPart duplicate_flag (ident_of declared.now)
+        (names_alone all.old.keys) (ident_of flag.now.id) e) }
 {
     check_flag(alloc, declared, all, &flag.id)?;
     push_name(alloc, all, flag.id.string)?;
@@ -97,8 +98,8 @@ fn enum_case(
 ) -> Result<(), Error>
     ensures ok { OnOk result (HasEnumCase (names_alone all.old.keys) (enum_case_of case.now)
         (names_alone all.new.keys)) }
-    ensures err { ErrorSays result (λ e. IsRepeatedEnumCase (ident_of declared.now) (names_alone all.old.keys)
-        (ident_of case.now.id) e) }
+    ensures err { ErrorSays result (λ e. IsRepeatedPart duplicate_enum_case (ident_of declared.now)
+        (names_alone all.old.keys) (ident_of case.now.id) e) }
 {
     check_enum_case(alloc, declared, all, &case.id)?;
     push_name(alloc, all, case.id.string)?;
@@ -115,8 +116,8 @@ fn each_flag(
     ensures ok { OnOk result (Steps HasFlag (names_alone all.old.keys) (map flag_of flags.now)
         (names_alone all.new.keys)) }
     ensures err { ErrorSays result (λ e. Fails HasFlag
-        (λ old before x. IsRepeatedFlag (ident_of declared.now) old x.id e) (names_alone all.old.keys)
-        (map flag_of flags.now)) }
+        (λ old before x. IsRepeatedPart duplicate_flag (ident_of declared.now) old x.id e)
+        (names_alone all.old.keys) (map flag_of flags.now)) }
 {
     for item in flags {
         flag(alloc, declared, all, item)?;
@@ -134,8 +135,8 @@ fn enum_cases(
     ensures ok { OnOk result (Steps HasEnumCase (names_alone all.old.keys) (map enum_case_of cases.now)
         (names_alone all.new.keys)) }
     ensures err { ErrorSays result (λ e. Fails HasEnumCase
-        (λ old before x. IsRepeatedEnumCase (ident_of declared.now) old x.id e) (names_alone all.old.keys)
-        (map enum_case_of cases.now)) }
+        (λ old before x. IsRepeatedPart duplicate_enum_case (ident_of declared.now) old x.id e)
+        (names_alone all.old.keys) (map enum_case_of cases.now)) }
 {
     for item in cases {
         enum_case(alloc, declared, all, item)?;

@@ -9,8 +9,9 @@ ghost use Rattle.wac_ast_base.specs.Names.{ident_of};
 ghost use Rattle.wac_ast_types.specs.Declarations.{field_of, record_decl_of};
 ghost use Rattle.wac_graph.specs.Graph.{Parts};
 ghost use Rattle.wac_graph.specs.Origin.{Naming};
+ghost use Rattle.wac_resolution_errors.specs.Error.{duplicate_record_field};
 ghost use Rattle.wac_resolution_rules.specs.Declarations.{HasField, IsRecord};
-ghost use Rattle.wac_resolution_rules.specs.BrokenDeclarations.{IsRepeatedField, FieldBroken, RecordBroken};
+ghost use Rattle.wac_resolution_rules.specs.BrokenDeclarations.{IsRepeatedPart, FieldBroken, RecordBroken};
 ghost use Rattle.wac_resolution_rules.specs.Errors.{ErrorSays};
 ghost use Rattle.wac_resolution_state.specs.Bindings.{values_of};
 ghost use Rattle.wac_resolution_types.specs.Declarations.{FieldStep, FieldSteps, ValueAdded};
@@ -37,7 +38,7 @@ fn check_field(
 ) -> Result<(), Error>
     ensures ok { OnOk result (IsFresh id.now.string.now (by_name all.now.entries)) }
     ensures err { ErrorSays result (λ e. (naming : Naming) (g : Parts)
-        → IsRepeatedField (ident_of declared.now)
+        → IsRepeatedPart duplicate_record_field (ident_of declared.now)
         (types_named naming g (by_name all.now.entries)) (ident_of id.now) e) }
 {
     match find(all, id.string) {

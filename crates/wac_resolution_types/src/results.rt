@@ -14,10 +14,10 @@ ghost use Rattle.wac_ast_types.specs.Declarations.{named_type_of, result_list_of
 ghost use Rattle.wac_graph.specs.Graph.{Parts};
 ghost use Rattle.wac_graph.specs.Means.{means};
 ghost use Rattle.wac_graph.specs.Origin.{Naming};
-ghost use Rattle.wac_resolution_errors.specs.Error.{borrow_in_result};
+ghost use Rattle.wac_resolution_errors.specs.Error.{borrow_in_result, duplicate_result};
 ghost use Rattle.wac_resolution_errors.specs.Told.{told};
 ghost use Rattle.wac_resolution_rules.specs.Types.{HasResult};
-ghost use Rattle.wac_resolution_rules.specs.BrokenTypes.{IsRepeatedResult, ResultTypeBroken, ResultBroken, ResultsBroken};
+ghost use Rattle.wac_resolution_rules.specs.BrokenTypes.{IsRepeated, ResultTypeBroken, ResultBroken, ResultsBroken};
 ghost use Rattle.wac_resolution_rules.specs.Errors.{ErrorSays};
 ghost use Rattle.wac_resolution_state.specs.Bindings.{values_of};
 ghost use Rattle.wac_resolution_types.specs.Funcs.{types_named, TypesNamed, ResultTypeIs, ResultStep, ResultSteps, ResultsAre};
@@ -43,7 +43,8 @@ fn check_result_name(
 ) -> Result<(), Error>
     ensures ok { OnOk result (IsFresh id.now.string.now (by_name all.now.entries)) }
     ensures err { ErrorSays result (λ e. (naming : Naming) (g : Parts)
-        → IsRepeatedResult kind (types_named naming g (by_name all.now.entries)) (ident_of id.now) e) }
+        → IsRepeated (types_named naming g (by_name all.now.entries)) (ident_of id.now).string
+        (duplicate_result kind (ident_of id.now).string (ident_of id.now).span) e) }
 {
     match find(all, id.string) {
         Some(_) => Err(Error::DuplicateResult {

@@ -9,8 +9,9 @@ ghost use Rattle.wac_ast_types.specs.Types.{ty_of};
 ghost use Rattle.wac_ast_types.specs.Declarations.{variant_case_of, variant_decl_of};
 ghost use Rattle.wac_graph.specs.Graph.{Parts};
 ghost use Rattle.wac_graph.specs.Origin.{Naming};
+ghost use Rattle.wac_resolution_errors.specs.Error.{duplicate_variant_case};
 ghost use Rattle.wac_resolution_rules.specs.Declarations.{HasCase, IsVariant};
-ghost use Rattle.wac_resolution_rules.specs.BrokenDeclarations.{IsRepeatedCase, OptionBroken, CaseBroken, VariantBroken};
+ghost use Rattle.wac_resolution_rules.specs.BrokenDeclarations.{IsRepeatedPart, OptionBroken, CaseBroken, VariantBroken};
 ghost use Rattle.wac_resolution_rules.specs.Errors.{ErrorSays};
 ghost use Rattle.wac_resolution_state.specs.Bindings.{values_of};
 ghost use Rattle.wac_resolution_types.specs.Declarations.{perhaps, cases_named, CaseTypeIs, CaseStep, CaseSteps, ValueAdded};
@@ -38,7 +39,8 @@ fn check_case(
 ) -> Result<(), Error>
     ensures ok { OnOk result (IsFresh id.now.string.now (by_name all.now.entries)) }
     ensures err { ErrorSays result (λ e. (naming : Naming) (g : Parts)
-        → IsRepeatedCase (ident_of declared.now) (cases_named naming g (by_name all.now.entries)) (ident_of id.now) e) }
+        → IsRepeatedPart duplicate_variant_case (ident_of declared.now)
+        (cases_named naming g (by_name all.now.entries)) (ident_of id.now) e) }
 {
     match find(all, id.string) {
         Some(_) => Err(Error::DuplicateVariantCase {

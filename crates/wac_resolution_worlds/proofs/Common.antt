@@ -46,7 +46,7 @@ pub use Rattle.wac_resolution_paths.proofs.Expanding.{expands_on, expands_self, 
 pub use Rattle.wac_resolution_paths.specs.Context.{context_of, packages_in}
 pub use Rattle.wac_resolution_paths.specs.Expands.{AllSupplied, Expands, Found}
 pub use Rattle.wac_resolution_rules.specs.Bodies.{Body, UsesItem, externs, renamed_from, used_as, with_count, with_extern, with_type}
-pub use Rattle.wac_resolution_rules.specs.BrokenBodies.{IsConflict, IsNoInterface, IsNoTypeThere, IsNoUsableType, IsUseConflict, ItemBroken, Owner, UseBroken, UseItemBroken, help_of_use, of_interface, of_world}
+pub use Rattle.wac_resolution_rules.specs.BrokenBodies.{IsConflict, IsNoInterface, IsNoTypeThere, IsNoUsableType, IsUseConflict, ItemBroken, Owner, UseBroken, UseItemBroken, help_unless, of_interface, of_world}
 pub use Rattle.wac_resolution_rules.specs.BrokenWorlds.{ExternBroken, ExternTypeBroken, FuncRefBroken, IncludeBroken, InstanceBroken, InterfaceBroken, InterfaceItemBroken, IsNoWorld, IsSecondEntry, TakingBroken, WorldBroken, WorldItemBroken, WorldRefBroken}
 pub use Rattle.wac_resolution_rules.specs.Includes.{HasEntry, HasInclude, Included}
 pub use Rattle.wac_resolution_rules.specs.Paths.{UseNames}

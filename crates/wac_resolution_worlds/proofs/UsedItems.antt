@@ -1,5 +1,5 @@
 -- Used types of an interface.
-use Rattle.wac_resolution_worlds.proofs.Common.{◌≡◌, ◌∙◌, ◌⊎◌, inl, inr, ◌+◌, ◌<◌, ℕ, List, [], ◌∷◌, ◌++◌, Option, Some, None, refl, sym, ap, subst, map, take, length, get_or, option_map, string_bytes, map_push, take_more, length-map, get_or-map, Span, Ident, ExternKind, InterfaceId, ItemKind, ValueType, Entry, UsedType, Meaning, Named, look_up, StandsFor, IsFresh, with_named, Uses, IsNoneOf, is_resource_or_value_form, export_of, uses_mean, Names, Parts, means, entry_means, Naming, Error, use_conflict, Body, externs, with_type, used_as, renamed_from, UsesItem, IsNoTypeThere, IsNoUsableType, IsUseConflict, UseItemBroken, help_of_use, at_ident, used_at, values_of, places_of, grows_self, memory_told, Lists, kinds_of, with_bound, with_used, body_in, UsesNamed, Covers, IsBody, body_with_bound, means_with_bound, extern_fresh, extern_stands, places_append, items_step}
+use Rattle.wac_resolution_worlds.proofs.Common.{◌≡◌, ◌∙◌, ◌⊎◌, inl, inr, ◌+◌, ◌<◌, ℕ, List, [], ◌∷◌, ◌++◌, Option, Some, None, refl, sym, ap, subst, map, take, length, get_or, option_map, string_bytes, map_push, take_more, length-map, get_or-map, Span, Ident, ExternKind, InterfaceId, ItemKind, ValueType, Entry, UsedType, Meaning, Named, look_up, StandsFor, IsFresh, with_named, Uses, IsNoneOf, is_resource_or_value_form, export_of, uses_mean, Names, Parts, means, entry_means, Naming, Error, use_conflict, Body, externs, with_type, used_as, renamed_from, UsesItem, IsNoTypeThere, IsNoUsableType, IsUseConflict, UseItemBroken, help_unless, at_ident, used_at, values_of, places_of, grows_self, memory_told, Lists, kinds_of, with_bound, with_used, body_in, UsesNamed, Covers, IsBody, body_with_bound, means_with_bound, extern_fresh, extern_stands, places_append, items_step}
 use Rattle.wac_ast_grammar.specs.Tree.{UseItem}
 use Rattle.wac_graph_types.specs.declared.kind.ExternKind.TheVariants as sides
 use Rattle.wac_graph_types.specs.declared.kind.ItemKind.TheVariants as kinds
@@ -146,7 +146,7 @@ kind_breaks side g i path e b before x naming (inr h) = inr (inl h)
 pub use_stands : (naming : Naming) (g : Parts) (side : ExternKind) (b : Lists) (x : UseItem) (id : Ident) (k : ItemKind) → id ≡ used_as x → look_up id.string (kinds_of side b) ≡ Some k → StandsFor (externs side (body_in naming g b)) (used_as x).string (means naming g k)
 use_stands naming g side b x id k named is = subst (λ (z : Ident). StandsFor (externs side (body_in naming g b)) z.string (means naming g k)) named (extern_stands naming g side b id.string k is)
 
-pub use_conflicts : (side : ExternKind) (b : Body) (x : UseItem) (id : Ident) (help : Option (List ℕ)) (m : Meaning) (e : Error) → id ≡ used_as x → help ≡ help_of_use x.as_id → StandsFor (externs side b) (used_as x).string m
+pub use_conflicts : (side : ExternKind) (b : Body) (x : UseItem) (id : Ident) (help : Option (List ℕ)) (m : Meaning) (e : Error) → id ≡ used_as x → help ≡ help_unless x.as_id → StandsFor (externs side b) (used_as x).string m
     → e ≡ use_conflict side id.string id.span help → IsUseConflict side b x e
 use_conflicts side b x id help m e named helped stands is =
     (m, stands, is ∙ ap (λ (z : Ident). use_conflict side z.string z.span help) named ∙ ap (use_conflict side (used_as x).string (used_as x).span) helped)

@@ -9,7 +9,7 @@ ghost use Rattle.wac_graph.specs.Graph.{Parts};
 ghost use Rattle.wac_graph.specs.Means.{means};
 ghost use Rattle.wac_graph.specs.Origin.{Naming};
 ghost use Rattle.wac_resolution_rules.specs.Bodies.{used_as as used_by, renamed_from};
-ghost use Rattle.wac_resolution_rules.specs.BrokenBodies.{help_of_use as help_for, IsNoTypeThere, IsNoUsableType, IsUseConflict};
+ghost use Rattle.wac_resolution_rules.specs.BrokenBodies.{help_unless, IsNoTypeThere, IsNoUsableType, IsUseConflict};
 ghost use Rattle.wac_resolution_rules.specs.Errors.{ErrorSays};
 ghost use Rattle.wac_resolution_bodies.specs.Lists.{lists_of, kinds_of};
 ghost use Rattle.wac_resolution_bodies.specs.Bodies.{body_of};
@@ -54,7 +54,7 @@ pub(crate) fn renamed(alloc: Global, item: &UseItem<'_>) -> Result<Option<String
 
 /// What can be done where the name is taken.
 fn help_of_use(item: &UseItem<'_>) -> Option<&'static str>
-    ensures { option_map (λ t. t.now) result ≡ help_for (use_item_of item.now).as_id }
+    ensures { option_map (λ t. t.now) result ≡ help_unless (use_item_of item.now).as_id }
 {
     match &item.as_id {
         Some(_) => None,
