@@ -20,11 +20,8 @@ copied_at (p ∷ ps) i = cond (nat_le p.first i && nat_lt i (p.first + p.size)) 
 
 -- one for a resource, none for another entry
 abbrev pub resources_in : Entry → ℕ
-resources_in (entries.Defined d) = 0
 resources_in (entries.Resource r) = 1
-resources_in (entries.Func f) = 0
-resources_in (entries.Interface i) = 0
-resources_in (entries.World w) = 0
+resources_in _ = 0
 
 abbrev pub own_resources : Option Origin → Entry → ℕ
 own_resources None e = resources_in e

@@ -20,17 +20,13 @@ use Rattle.wac_graph_types.specs.declared.child.Place.TheVariants as places
 use Rattle.wac_graph_types.specs.declared.child.Child.{Child}
 
 pub data Slot : Type 0 where
-  only : Slot
-  ok : Slot
-  err : Slot
+  only ok err : Slot
   named : List ℕ → Slot
   -- a result, with its name, if it has one
   given : Option (List ℕ) → Slot
-  owner : Slot
-  source : Slot
+  owner source : Slot
   used : List ℕ → Option (List ℕ) → Slot
-  import : List ℕ → Slot
-  export : List ℕ → Slot
+  import export : List ℕ → Slot
   deriving Discrete as Slot-discrete
 
 abbrev pub slot_of : Place → Slot
