@@ -3,8 +3,7 @@ use Rattle.std.specs.Prelude.{◌≡◌, ◌+◌, ◌-◌, ℕ, suc, List, [], �
 use Rattle.wac_graph_types.specs.declared.kind.ItemKind.{ItemKind}
 use Rattle.wac_graph_types.specs.declared.entry.Entry.{Entry}
 use Rattle.wac_graph_types.specs.declared.entry.Entry.TheVariants as entries
-use Rattle.wac_graph_types.specs.Entry.{children}
-use Rattle.wac_graph_types.specs.Label.{label}
+use Rattle.wac_graph_types.specs.Entry.{children, label}
 use Rattle.wac_graph_types.specs.Meaning.{Meaning, node, of_kind, row, meaning, meaning_at, NamesBefore}
 use Rattle.wac_graph_types.specs.Meaning as tables
 use Rattle.wac_graph_types.specs.Package.{PackageParts}

@@ -13,8 +13,8 @@ use Rattle.wac_graph_types.specs.declared.entry.Interface.{Interface}
 use Rattle.wac_graph_types.specs.declared.entry.World.{World}
 use Rattle.wac_graph_types.specs.declared.entry.UsedType.{UsedType}
 use Rattle.wac_graph_types.specs.Entry as slots
-use Rattle.wac_graph_types.specs.Entry.{Slot, children, defined_children, use_children, import_children, export_children, value_children, case_children}
-use Rattle.wac_graph_types.specs.Label.{Plain, plain, defined_label}
+use Rattle.wac_graph_types.specs.Entry.{Slot, children, defined_children, use_children, import_children, export_children, value_children, case_children, defined_label}
+use Rattle.wac_graph_types.specs.Label.{Plain, plain}
 use Rattle.wac_graph_types.specs.Meaning.{Meaning, node, Row, row, of_kind, of_child}
 use Rattle.wac_graph_types.specs.Names.{by_name}
 use Rattle.wac_graph_types.specs.Shape.{nothing, row_from, in_slots, using, naming_each, tuple_children, name_children, interface_entry, world_entry, func_entry, named_results, exports_of, imports_of, uses_of, id_of, items_mean, values_mean, cases_mean, types_mean, uses_mean, optional_means, results_mean, entry_over, defined_parts, items_in, slot_export}

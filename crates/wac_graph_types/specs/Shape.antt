@@ -11,8 +11,8 @@ use Rattle.wac_graph_types.specs.declared.entry.DefinedType.{DefinedType}
 use Rattle.wac_graph_types.specs.declared.entry.DefinedType.TheVariants as types
 use Rattle.wac_graph_types.specs.declared.entry.Entry.{Entry}
 use Rattle.wac_graph_types.specs.Kind.{Form, a_resource, a_func, an_interface, a_world, func, instance, component, a_core_module, core_module, a_value, value, primitive, borrow, own, defined}
-use Rattle.wac_graph_types.specs.Entry.{Slot, only, ok, err, named, given, owner, used, import, export, children}
-use Rattle.wac_graph_types.specs.Label.{Label, plain, resource, Plain, kind, absent, alias, label}
+use Rattle.wac_graph_types.specs.Entry.{Slot, only, ok, err, named, given, owner, used, import, export, children, label}
+use Rattle.wac_graph_types.specs.Label.{Label, plain, resource, Plain, kind, absent, alias}
 use Rattle.wac_graph_types.specs.Meaning.{Meaning, node, Row, done, more, of_kind, of_child, row}
 use Rattle.wac_graph_types.specs.Names.{by_name}
 use Rattle.wac_graph_types.specs.Scope.{Named, look_up}
