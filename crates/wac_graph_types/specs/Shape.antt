@@ -286,9 +286,13 @@ alias_type v = defined_type alias (one_child v)
 
 -- ---- borrows
 
+abbrev pub is_borrow_form : Form → Bool
+is_borrow_form (value borrow) = true
+is_borrow_form _ = false
+
 -- whether a label contains a borrow, given whether a part does: a resource doesn't, whatever its alias is
 abbrev pub borrows : Label → Bool → Bool
-borrows (plain (kind (value borrow))) rest = true
+borrows (plain (kind f)) rest = is_borrow_form f || rest
 borrows (plain _) rest = rest
 borrows (resource o n) rest = false
 
