@@ -17,8 +17,8 @@ use Rattle.wac_graph_types.specs.declared.entry.ResourceAlias.{ResourceAlias}
 use Rattle.wac_graph_types.specs.Kind.{Form, form, named_by, sort_named, value_form, value_named_by}
 use Rattle.wac_graph_types.specs.Kind as forms
 use Rattle.wac_graph_types.specs.Entry as slots
-use Rattle.wac_graph_types.specs.Entry.{children, sort_of}
-use Rattle.wac_graph_types.specs.Label.{label, Plain}
+use Rattle.wac_graph_types.specs.Entry.{children, sort_of, label}
+use Rattle.wac_graph_types.specs.Label.{Plain}
 use Rattle.wac_graph_types.specs.Meaning.{Meaning, EachKind, row, named, of_kind, meaning_at, NamesBefore, IsEarlier}
 use Rattle.wac_graph_types.specs.Readings.{as_resource}
 use Rattle.wac_graph_types.specs.Table.{IsTable, IsOfSort, Names}

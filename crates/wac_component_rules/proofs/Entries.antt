@@ -14,8 +14,7 @@ use Rattle.wac_graph_types.specs.declared.entry.DefinedType.{DefinedType}
 use Rattle.wac_graph_types.specs.declared.entry.DefinedType.TheVariants as defined
 use Rattle.wac_graph_types.specs.Kind.{Form, form, named_by, sort_named, value_form, value_named_by}
 use Rattle.wac_graph_types.specs.Kind as forms
-use Rattle.wac_graph_types.specs.Entry.{children, sort_of}
-use Rattle.wac_graph_types.specs.Label.{label, defined_label}
+use Rattle.wac_graph_types.specs.Entry.{children, sort_of, label, defined_label}
 use Rattle.wac_graph_types.specs.Meaning.{Meaning, row, meaning_at, IsEarlier}
 use Rattle.wac_graph_types.specs.Shape.{slot_import}
 use Rattle.wac_graph_types.specs.Table.{Names}

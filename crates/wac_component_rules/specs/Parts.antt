@@ -7,8 +7,8 @@ use Rattle.wac_graph_types.specs.declared.entry.Entry.TheVariants as entries
 use Rattle.wac_graph_types.specs.declared.entry.DefinedType.{DefinedType}
 use Rattle.wac_graph_types.specs.declared.entry.DefinedType.TheVariants as defined
 use Rattle.wac_graph_types.specs.Entry as slots
-use Rattle.wac_graph_types.specs.Entry.{Slot, optional, defined_children, result_children, value_children, sort_of}
-use Rattle.wac_graph_types.specs.Label.{Plain, defined_label}
+use Rattle.wac_graph_types.specs.Entry.{Slot, optional, defined_children, result_children, value_children, sort_of, defined_label}
+use Rattle.wac_graph_types.specs.Label.{Plain}
 use Rattle.wac_graph_types.specs.Names.{by_name}
 use Rattle.wac_graph_types.specs.Scope.{Named}
 use Rattle.wac_graph_types.specs.Shape.{slot_import, slot_export}

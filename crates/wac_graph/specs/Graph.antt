@@ -80,10 +80,8 @@ with_name g node name = changed g node (λ n. record n { name = Some name })
 
 -- one more argument of an instantiation
 abbrev pub given_too : Form → List ℕ → ℕ → Form
-given_too (import x) name value = import x
-given_too definition name value = definition
-given_too (alias node export) name value = alias node export
 given_too (instantiation p arguments) name value = instantiation p (with_named arguments name value)
+given_too f name value = f
 
 abbrev pub with_argument : Parts → ℕ → List ℕ → ℕ → Parts
 with_argument g node name value = changed g node (λ n. record n { form = given_too n.form name value })

@@ -3,8 +3,7 @@ use Rattle.std.specs.Prelude.{◌≡◌, ◌+◌, ◌-◌, ℕ, suc, List, [], �
 use Rattle.wac_graph_types.specs.declared.kind.ItemKind.{ItemKind}
 use Rattle.wac_graph_types.specs.declared.entry.Entry.{Entry}
 use Rattle.wac_graph_types.specs.declared.entry.Entry.TheVariants as entries
-use Rattle.wac_graph_types.specs.Entry.{children}
-use Rattle.wac_graph_types.specs.Label.{label}
+use Rattle.wac_graph_types.specs.Entry.{children, label}
 use Rattle.wac_graph_types.specs.Meaning.{Meaning, node, of_kind, row, meaning, meaning_at, NamesBefore}
 use Rattle.wac_graph_types.specs.Meaning as tables
 use Rattle.wac_graph_types.specs.Package.{PackageParts}
@@ -20,11 +19,8 @@ copied_at (p ∷ ps) i = cond (nat_le p.first i && nat_lt i (p.first + p.size)) 
 
 -- one for a resource, none for another entry
 abbrev pub resources_in : Entry → ℕ
-resources_in (entries.Defined d) = 0
 resources_in (entries.Resource r) = 1
-resources_in (entries.Func f) = 0
-resources_in (entries.Interface i) = 0
-resources_in (entries.World w) = 0
+resources_in _ = 0
 
 abbrev pub own_resources : Option Origin → Entry → ℕ
 own_resources None e = resources_in e

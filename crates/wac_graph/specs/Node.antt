@@ -25,36 +25,26 @@ pub record Node : Type 0 where
 
 abbrev pub import_in : Form → Option (List ℕ)
 import_in (import name) = Some name
-import_in definition = None
-import_in (alias node export) = None
-import_in (instantiation p arguments) = None
+import_in _ = None
 
 -- the node and the export that a node is an alias of
 abbrev pub source_in : Form → Option (ℕ × List ℕ)
-source_in (import name) = None
-source_in definition = None
 source_in (alias node export) = Some (node, export)
-source_in (instantiation p arguments) = None
+source_in _ = None
 
 -- the package that a node is an instance of
 abbrev pub package_in : Form → Option ℕ
-package_in (import name) = None
-package_in definition = None
-package_in (alias node export) = None
 package_in (instantiation p arguments) = Some p
+package_in _ = None
 
 abbrev pub arguments_in : Form → Named ℕ
-arguments_in (import name) = []
-arguments_in definition = []
-arguments_in (alias node export) = []
 arguments_in (instantiation p arguments) = arguments
+arguments_in _ = []
 
 -- whether a node is the alias of that export of that node
 abbrev pub is_alias_of : ℕ → List ℕ → Form → Bool
-is_alias_of node export (import name) = false
-is_alias_of node export definition = false
 is_alias_of node export (alias n e) = nat_eq n node && bytes_eq e export
-is_alias_of node export (instantiation p arguments) = false
+is_alias_of node export _ = false
 
 -- what a node is, without its edges
 pub data Sort : Type 0 where
@@ -76,10 +66,8 @@ sort_of (nodes.Instantiation p) = instantiated p.0
 
 -- the package of an instance is one of so many
 abbrev pub HasPackage : ℕ → Sort → Type 0
-HasPackage packages (imported name) = Unit {0}
-HasPackage packages defined = Unit {0}
-HasPackage packages aliased = Unit {0}
 HasPackage packages (instantiated p) = p < packages
+HasPackage packages _ = Unit {0}
 
 -- ---- how it is held
 

@@ -23,9 +23,8 @@ key_of k = (string_bytes k.name, option_map string_bytes k.version)
 
 abbrev pub same_version : Option (List ℕ) → Option (List ℕ) → Bool
 same_version None None = true
-same_version None (Some w) = false
-same_version (Some v) None = false
 same_version (Some v) (Some w) = bytes_eq v w
+same_version _ _ = false
 
 abbrev pub same_key : Key → Key → Bool
 same_key a b = bytes_eq a.0 b.0 && same_version a.1 b.1

@@ -1,14 +1,16 @@
 -- Packages that a caller of resolving supplies.
 use Rattle.std.specs.Prelude.{◌≡◌, List, map, length, Option}
 use Rattle.std.specs.Map.{lookup}
+use Rattle.wac_graph_types.specs.declared.kind.ItemKind.{ItemKind}
 use Rattle.wac_graph_types.specs.declared.kind.ItemKind.TheVariants as kinds
+use Rattle.wac_graph_types.specs.declared.kind.InterfaceId.{InterfaceId}
+use Rattle.wac_graph_types.specs.declared.kind.WorldId.{WorldId}
 use Rattle.wac_graph_types.specs.Meaning.{Meaning, meaning}
 use Rattle.wac_graph_types.specs.Package.{PackageParts}
 use Rattle.wac_graph_types.specs.Scope.{Named}
-use Rattle.wac_graph_types.specs.Shape.{items_mean}
 use Rattle.wac_graph.specs.Package.{Key, HeldPackage, same_key, moved_package}
 use Rattle.wac_graph.specs.Graph.{Parts}
-use Rattle.wac_graph.specs.Means.{means, entry_means}
+use Rattle.wac_graph.specs.Means.{means}
 use Rattle.wac_graph.specs.Origin.{Naming, copied}
 
 -- what a package means: its world as a component, its instance, and what it defines
@@ -20,13 +22,17 @@ pub record Contents : Type 0 where
 abbrev pub Packages : Type 0
 Packages = List (Key × Contents)
 
+-- what the parts of a package mean, where each kind means this
+abbrev pub contents_by : (ItemKind → Meaning) → WorldId → InterfaceId → Named ItemKind → Contents
+contents_by mean world instance definitions = record {
+  world = mean (kinds.Component world);
+  instance = mean (kinds.Instance instance);
+  definitions = map (λ d. (d.0, mean d.1)) definitions;
+}
+
 -- the contents of the package of a key
 abbrev pub contents_of : Naming → Key → PackageParts → Contents
-contents_of naming key p = record {
-  world = meaning (λ i. naming (copied key i)) p.types (kinds.Component p.world);
-  instance = meaning (λ i. naming (copied key i)) p.types (kinds.Instance p.instance);
-  definitions = map (λ d. (d.0, meaning (λ i. naming (copied key i)) p.types d.1)) p.definitions;
-}
+contents_of naming key p = contents_by (λ k. meaning (λ i. naming (copied key i)) p.types k) p.world p.instance p.definitions
 
 -- the packages that are supplied, by key
 abbrev pub handed : Naming → List (Key × PackageParts) → Packages
@@ -38,11 +44,7 @@ package_of key all = lookup (λ k. same_key key k) all
 
 -- the contents of a package that a graph holds
 abbrev pub contents_in : Naming → Parts → HeldPackage → Contents
-contents_in naming g p = record {
-  world = means naming g (kinds.Component p.world);
-  instance = means naming g (kinds.Instance p.instance);
-  definitions = items_mean (entry_means naming g) p.definitions;
-}
+contents_in naming g p = contents_by (λ k. means naming g k) p.world p.instance p.definitions
 
 -- the package that was copied in has in the new graph the contents that it was supplied with
 abbrev pub HoldsContents : Parts → Parts → Key → PackageParts → Type 0

@@ -2,8 +2,7 @@
 use Rattle.std.specs.Prelude.{◌≡◌, ◌+◌, ℕ, List, [], ◌∷◌, ◌++◌, length}
 use Rattle.wac_graph_types.specs.declared.entry.Entry.{Entry}
 use Rattle.wac_graph_types.specs.declared.kind.ItemKind.{ItemKind}
-use Rattle.wac_graph_types.specs.Entry.{children, sort_of}
-use Rattle.wac_graph_types.specs.Label.{label}
+use Rattle.wac_graph_types.specs.Entry.{children, sort_of, label}
 use Rattle.wac_graph_types.specs.Meaning.{meaning, NamesBefore}
 use Rattle.wac_graph_copies.specs.Moved.{moved, moved_children}
 

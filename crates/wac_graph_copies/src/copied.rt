@@ -1,7 +1,6 @@
 //! Entries that are copied from one table to another.
 ghost use Rattle.std.specs.Prelude.{◌≡◌, ◌+◌, ◌<◌, ◌^◌, IfSome, IfOk, OnOk, length, option_map, string_bytes};
-ghost use Rattle.wac_graph_types.specs.Entry.{children, defined_children, alias_children, result_children};
-ghost use Rattle.wac_graph_types.specs.Label.{defined_label};
+ghost use Rattle.wac_graph_types.specs.Entry.{children, defined_children, alias_children, result_children, defined_label};
 ghost use Rattle.wac_graph_types.specs.Meaning.{EachKind};
 ghost use Rattle.wac_graph_types.specs.Table.{IsTable};
 ghost use Rattle.wac_graph_copies.specs.Moved.{moved_children, Fits};

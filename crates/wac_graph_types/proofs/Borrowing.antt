@@ -4,8 +4,7 @@ use Rattle.wac_graph_types.specs.declared.kind.ItemKind.{ItemKind}
 use Rattle.wac_graph_types.specs.declared.entry.Entry.{Entry}
 use Rattle.wac_graph_types.specs.declared.entry.Entry.TheVariants as entries
 use Rattle.wac_graph_types.specs.declared.entry.DefinedType.TheVariants as defined
-use Rattle.wac_graph_types.specs.Entry.{Slot, children}
-use Rattle.wac_graph_types.specs.Label.{label}
+use Rattle.wac_graph_types.specs.Entry.{Slot, children, label}
 use Rattle.wac_graph_types.specs.Meaning.{Meaning, look, over, meanings_from, meaning_at, meaning, of_child, row}
 use Rattle.wac_graph_types.specs.Borrows.{AreBorrows}
 use Rattle.wac_graph_types.specs.Readings.{is_resource}

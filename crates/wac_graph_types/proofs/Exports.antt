@@ -14,7 +14,7 @@ use Rattle.wac_graph_types.specs.Names.{by_name}
 use Rattle.wac_graph_types.specs.Package.{SameExports, OtherExports}
 use Rattle.wac_graph_types.specs.Readings.{interface_exports, world_exports}
 use Rattle.wac_graph_types.specs.Scope.{Named}
-use Rattle.wac_graph_types.specs.Shape.{items_mean, items_in, slot_export, row_from, exporting}
+use Rattle.wac_graph_types.specs.Shape.{items_mean, items_in, slot_export, row_from, in_slots}
 use Rattle.wac_graph_types.specs.declared.kind.InterfaceId.{InterfaceId}
 use Rattle.wac_graph_types.specs.declared.kind.WorldId.{WorldId}
 use Rattle.wac_graph_types.proofs.Parts.{exports_row, exports_read}
@@ -92,7 +92,7 @@ rows_agree : (f : ℕ → Meaning) (xs ys : List (String Global × ItemKind)) �
 rows_agree f xs ys h = sym (exports_read f xs) ∙ ap (items_in slot_export) h ∙ exports_read f ys
 
 items_agree : (f : ℕ → Meaning) (xs ys : List (String Global × ItemKind)) → items_mean f (by_name xs) ≡ items_mean f (by_name ys) → row f (export_children xs) ≡ row f (export_children ys)
-items_agree f xs ys h = exports_row f xs ∙ ap (λ (l : Named Meaning). row_from (exporting l)) h ∙ sym (exports_row f ys)
+items_agree f xs ys h = exports_row f xs ∙ ap (λ (l : Named Meaning). row_from (in_slots Slot.export l)) h ∙ sym (exports_row f ys)
 
 module _ (es : List Entry) (world : WorldId) (instance : InterfaceId) (first second : List (String Global × ItemKind)) (r : Bool)
     (one : by_name first ≡ interface_exports es instance.0) (two : by_name second ≡ world_exports es world.0)

@@ -4,8 +4,8 @@ use Rattle.std.proofs.Math.Seq.{get_or-append_seam}
 use Rattle.wac_graph_types.specs.declared.kind.ItemKind.{ItemKind}
 use Rattle.wac_graph_types.specs.declared.entry.Entry.{Entry}
 use Rattle.wac_graph_types.specs.Kind.{form, named_by}
-use Rattle.wac_graph_types.specs.Entry.{Slot, children}
-use Rattle.wac_graph_types.specs.Label.{plain, kind, dangling, label}
+use Rattle.wac_graph_types.specs.Entry.{Slot, children, label}
+use Rattle.wac_graph_types.specs.Label.{plain, kind, dangling}
 use Rattle.wac_graph_types.specs.Meaning.{Meaning, node, done, look, named, of_child, row, over, meanings_from, meaning_at, meaning, NamesBefore, ChildrenBefore, EarlierFrom, IsEarlier}
 
 -- older meanings stay

@@ -13,11 +13,11 @@ use Rattle.wac_graph_types.specs.declared.entry.Interface.{Interface}
 use Rattle.wac_graph_types.specs.declared.entry.World.{World}
 use Rattle.wac_graph_types.specs.declared.entry.UsedType.{UsedType}
 use Rattle.wac_graph_types.specs.Entry as slots
-use Rattle.wac_graph_types.specs.Entry.{Slot, children, defined_children, use_children, import_children, export_children, value_children, case_children}
-use Rattle.wac_graph_types.specs.Label.{Plain, plain, defined_label}
+use Rattle.wac_graph_types.specs.Entry.{Slot, children, defined_children, use_children, import_children, export_children, value_children, case_children, defined_label}
+use Rattle.wac_graph_types.specs.Label.{Plain, plain}
 use Rattle.wac_graph_types.specs.Meaning.{Meaning, node, Row, row, of_kind, of_child}
 use Rattle.wac_graph_types.specs.Names.{by_name}
-use Rattle.wac_graph_types.specs.Shape.{nothing, row_from, exporting, importing, using, naming_each, tuple_children, name_children, interface_entry, world_entry, func_entry, named_results, exports_of, imports_of, uses_of, id_of, items_mean, values_mean, cases_mean, types_mean, uses_mean, optional_means, results_mean, entry_over, defined_parts, items_in, slot_export}
+use Rattle.wac_graph_types.specs.Shape.{nothing, row_from, in_slots, using, naming_each, tuple_children, name_children, interface_entry, world_entry, func_entry, named_results, exports_of, imports_of, uses_of, id_of, items_mean, values_mean, cases_mean, types_mean, uses_mean, optional_means, results_mean, entry_over, defined_parts, items_in, slot_export}
 use Rattle.wac_graph_types.proofs.Shapes.{exports_back, interface_exports_back, interface_uses_back, world_exports_back, world_imports_back, world_uses_back}
 
 -- the kinds in an entry, each with its meaning
@@ -32,18 +32,18 @@ meant_append : (f : ℕ → Meaning) (cs ds : List (Slot × Option ItemKind)) �
 meant_append f [] ds = refl
 meant_append f (c ∷ cs) ds = ap (λ l. (c.0, of_child f c.1) ∷ l) (meant_append f cs ds)
 
-exports_meant : (f : ℕ → Meaning) (es : List (String Global × ItemKind)) → meant f (export_children es) ≡ exporting (items_mean f (by_name es))
+exports_meant : (f : ℕ → Meaning) (es : List (String Global × ItemKind)) → meant f (export_children es) ≡ in_slots Slot.export (items_mean f (by_name es))
 exports_meant f [] = refl
 exports_meant f (e ∷ es) = ap (λ l. (Slot.export (string_bytes e.0), of_kind f e.1) ∷ l) (exports_meant f es)
 
 -- a map of exports as a row
-pub exports_row : (f : ℕ → Meaning) (es : List (String Global × ItemKind)) → row f (export_children es) ≡ row_from (exporting (items_mean f (by_name es)))
+pub exports_row : (f : ℕ → Meaning) (es : List (String Global × ItemKind)) → row f (export_children es) ≡ row_from (in_slots Slot.export (items_mean f (by_name es)))
 exports_row f es = row_is f (export_children es) ∙ ap row_from (exports_meant f es)
 
 pub exports_read : (f : ℕ → Meaning) (es : List (String Global × ItemKind)) → items_in slot_export (row f (export_children es)) ≡ items_mean f (by_name es)
 exports_read f es = ap (items_in slot_export) (exports_row f es) ∙ exports_back (items_mean f (by_name es))
 
-imports_meant : (f : ℕ → Meaning) (es : List (String Global × ItemKind)) → meant f (import_children es) ≡ importing (items_mean f (by_name es))
+imports_meant : (f : ℕ → Meaning) (es : List (String Global × ItemKind)) → meant f (import_children es) ≡ in_slots Slot.import (items_mean f (by_name es))
 imports_meant f [] = refl
 imports_meant f (e ∷ es) = ap (λ l. (Slot.import (string_bytes e.0), of_kind f e.1) ∷ l) (imports_meant f es)
 
@@ -96,7 +96,7 @@ world_is f origin w =
     ∙ ap (λ l. l ++ meant f es) (meant_append f us is)
     ∙ ap (λ l. (l ++ meant f is) ++ meant f es) (used_meant f w.uses.entries)
     ∙ ap (λ l. (using (uses_mean f (by_name w.uses.entries)) ++ l) ++ meant f es) (imports_meant f w.imports.entries)
-    ∙ ap (λ l. (using (uses_mean f (by_name w.uses.entries)) ++ importing (items_mean f (by_name w.imports.entries))) ++ l) (exports_meant f w.exports.entries)))
+    ∙ ap (λ l. (using (uses_mean f (by_name w.uses.entries)) ++ in_slots Slot.import (items_mean f (by_name w.imports.entries))) ++ l) (exports_meant f w.exports.entries)))
 
 pub func_is : (f : ℕ → Meaning) (origin : ℕ) (t : FuncType)
     → entry_over f origin (entries.Func t) ≡ func_entry t.is_async (results_mean f t.results) (values_mean f (by_name t.params.entries))

@@ -3,8 +3,8 @@ use Rattle.wac_graph_types.proofs.Common.{◌≡◌, ◌≢◌, ◌+◌, ◌*◌
 use Rattle.wac_graph_types.specs.declared.kind.ItemKind.{ItemKind}
 use Rattle.wac_graph_types.specs.declared.entry.Entry.{Entry}
 use Rattle.wac_graph_types.specs.Kind.{named_by}
-use Rattle.wac_graph_types.specs.Entry.{Slot, children}
-use Rattle.wac_graph_types.specs.Label.{Label, label}
+use Rattle.wac_graph_types.specs.Entry.{Slot, children, label}
+use Rattle.wac_graph_types.specs.Label.{Label}
 use Rattle.wac_graph_types.proofs.Meanings.{meaning_at_entry}
 use Rattle.wac_graph_types.specs.Meaning.{Meaning, meaning_at, node, Row, done, more, of_child, row, NamesBefore, ChildrenBefore, EarlierFrom, IsEarlier}
 

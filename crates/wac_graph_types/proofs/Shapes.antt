@@ -8,7 +8,7 @@ use Rattle.wac_graph_types.specs.Words as words
 use Rattle.wac_graph_types.specs.Entry.{Slot}
 use Rattle.wac_graph_types.specs.Meaning.{Meaning, of_kind}
 use Rattle.wac_graph_types.specs.Scope.{Named, look_up}
-use Rattle.wac_graph_types.specs.Shape.{form_of, described, promoted, Uses, row_from, exporting, importing, using, interface_entry, world_entry, exports_of, imports_of, uses_of, id_of, items_in, cons_named, slot_export, slot_import, slot_use, items_mean}
+use Rattle.wac_graph_types.specs.Shape.{form_of, described, promoted, Uses, row_from, in_slots, using, interface_entry, world_entry, exports_of, imports_of, uses_of, id_of, items_in, cons_named, slot_export, slot_import, slot_use, items_mean}
 
 -- ---- kinds
 
@@ -61,11 +61,11 @@ items_append : {X : Type 0} (pick : Slot → Option X) (cs ds : List (Slot × Me
 items_append pick [] ds = refl
 items_append pick (c ∷ cs) ds = ap (cons_named (pick c.0) c.1) (items_append pick cs ds) ∙ cons_append (pick c.0) c.1 (items_in pick (row_from cs)) (items_in pick (row_from ds))
 
-pub exports_back : (es : Named Meaning) → items_in slot_export (row_from (exporting es)) ≡ es
+pub exports_back : (es : Named Meaning) → items_in slot_export (row_from (in_slots Slot.export es)) ≡ es
 exports_back [] = refl
 exports_back (e ∷ es) = ap (λ l. e ∷ l) (exports_back es)
 
-imports_back : (es : Named Meaning) → items_in slot_import (row_from (importing es)) ≡ es
+imports_back : (es : Named Meaning) → items_in slot_import (row_from (in_slots Slot.import es)) ≡ es
 imports_back [] = refl
 imports_back (e ∷ es) = ap (λ l. e ∷ l) (imports_back es)
 
@@ -73,19 +73,19 @@ uses_back : (us : Uses) → items_in slot_use (row_from (using us)) ≡ us
 uses_back [] = refl
 uses_back (u ∷ us) = ap (λ l. u ∷ l) (uses_back us)
 
-no_export_in_imports : (es : Named Meaning) → items_in slot_export (row_from (importing es)) ≡ []
+no_export_in_imports : (es : Named Meaning) → items_in slot_export (row_from (in_slots Slot.import es)) ≡ []
 no_export_in_imports [] = refl
 no_export_in_imports (e ∷ es) = no_export_in_imports es
 
-no_import_in_exports : (es : Named Meaning) → items_in slot_import (row_from (exporting es)) ≡ []
+no_import_in_exports : (es : Named Meaning) → items_in slot_import (row_from (in_slots Slot.export es)) ≡ []
 no_import_in_exports [] = refl
 no_import_in_exports (e ∷ es) = no_import_in_exports es
 
-no_use_in_exports : (es : Named Meaning) → items_in slot_use (row_from (exporting es)) ≡ []
+no_use_in_exports : (es : Named Meaning) → items_in slot_use (row_from (in_slots Slot.export es)) ≡ []
 no_use_in_exports [] = refl
 no_use_in_exports (e ∷ es) = no_use_in_exports es
 
-no_use_in_imports : (es : Named Meaning) → items_in slot_use (row_from (importing es)) ≡ []
+no_use_in_imports : (es : Named Meaning) → items_in slot_use (row_from (in_slots Slot.import es)) ≡ []
 no_use_in_imports [] = refl
 no_use_in_imports (e ∷ es) = no_use_in_imports es
 
@@ -111,19 +111,19 @@ pub interface_id_back : (id : Option (List ℕ)) (us : Uses) (es : Named Meaning
 interface_id_back id us es = refl
 
 pub interface_uses_back : (id : Option (List ℕ)) (us : Uses) (es : Named Meaning) → uses_of (interface_entry id us es) ≡ us
-interface_uses_back id us es = before_none slot_use (using us) (exporting es) us (uses_back us) (no_use_in_exports es)
+interface_uses_back id us es = before_none slot_use (using us) (in_slots Slot.export es) us (uses_back us) (no_use_in_exports es)
 
 pub interface_exports_back : (id : Option (List ℕ)) (us : Uses) (es : Named Meaning) → exports_of (interface_entry id us es) ≡ es
-interface_exports_back id us es = behind_none slot_export (using us) (exporting es) es (no_export_in_uses us) (exports_back es)
+interface_exports_back id us es = behind_none slot_export (using us) (in_slots Slot.export es) es (no_export_in_uses us) (exports_back es)
 
 pub world_id_back : (id : Option (List ℕ)) (us : Uses) (is es : Named Meaning) → id_of (world_entry id us is es) ≡ id
 world_id_back id us is es = refl
 
 pub world_uses_back : (id : Option (List ℕ)) (us : Uses) (is es : Named Meaning) → uses_of (world_entry id us is es) ≡ us
-world_uses_back id us is es = before_none slot_use (using us ++ importing is) (exporting es) us (before_none slot_use (using us) (importing is) us (uses_back us) (no_use_in_imports is)) (no_use_in_exports es)
+world_uses_back id us is es = before_none slot_use (using us ++ in_slots Slot.import is) (in_slots Slot.export es) us (before_none slot_use (using us) (in_slots Slot.import is) us (uses_back us) (no_use_in_imports is)) (no_use_in_exports es)
 
 pub world_exports_back : (id : Option (List ℕ)) (us : Uses) (is es : Named Meaning) → exports_of (world_entry id us is es) ≡ es
-world_exports_back id us is es = behind_none slot_export (using us ++ importing is) (exporting es) es (behind_none slot_export (using us) (importing is) [] (no_export_in_uses us) (no_export_in_imports is)) (exports_back es)
+world_exports_back id us is es = behind_none slot_export (using us ++ in_slots Slot.import is) (in_slots Slot.export es) es (behind_none slot_export (using us) (in_slots Slot.import is) [] (no_export_in_uses us) (no_export_in_imports is)) (exports_back es)
 
 pub world_imports_back : (id : Option (List ℕ)) (us : Uses) (is es : Named Meaning) → imports_of (world_entry id us is es) ≡ is
-world_imports_back id us is es = before_none slot_import (using us ++ importing is) (exporting es) is (behind_none slot_import (using us) (importing is) is (no_import_in_uses us) (imports_back is)) (no_import_in_exports es)
+world_imports_back id us is es = before_none slot_import (using us ++ in_slots Slot.import is) (in_slots Slot.export es) is (behind_none slot_import (using us) (in_slots Slot.import is) is (no_import_in_uses us) (imports_back is)) (no_import_in_exports es)

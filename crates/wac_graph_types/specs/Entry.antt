@@ -1,4 +1,4 @@
--- The kinds in an entry, each in its slot.
+-- The kinds in an entry, each in its slot, and what an entry is apart from them.
 use Rattle.std.specs.Prelude.{ℕ, Option, Some, None, List, [], ◌∷◌, ◌++◌, map, option_map, string_bytes, String}
 use Rattle.std.specs.declared.alloc.Global.{Global}
 use Rattle.wac_graph_types.specs.declared.kind.ValueType.{ValueType}
@@ -18,19 +18,16 @@ use Rattle.wac_graph_types.specs.declared.entry.UsedType.{UsedType}
 use Rattle.wac_graph_types.specs.declared.child.Place.{Place}
 use Rattle.wac_graph_types.specs.declared.child.Place.TheVariants as places
 use Rattle.wac_graph_types.specs.declared.child.Child.{Child}
+use Rattle.wac_graph_types.specs.Label.{Label, plain, resource, Plain, tuple, list, option, result, variant, fields, flags, cases, alias, stream, future, func, interface, world}
 
 pub data Slot : Type 0 where
-  only : Slot
-  ok : Slot
-  err : Slot
+  only ok err : Slot
   named : List ℕ → Slot
   -- a result, with its name, if it has one
   given : Option (List ℕ) → Slot
-  owner : Slot
-  source : Slot
+  owner source : Slot
   used : List ℕ → Option (List ℕ) → Slot
-  import : List ℕ → Slot
-  export : List ℕ → Slot
+  import export : List ℕ → Slot
   deriving Discrete as Slot-discrete
 
 abbrev pub slot_of : Place → Slot
@@ -73,18 +70,25 @@ import_children is = map (λ e. (import (string_bytes e.0), Some e.1)) is
 abbrev pub export_children : List (String Global × ItemKind) → List (Slot × Option ItemKind)
 export_children es = map (λ e. (export (string_bytes e.0), Some e.1)) es
 
+-- what a defined type is apart from the kinds in it, and these
+abbrev pub defined_view : DefinedType → Plain × List (Slot × Option ItemKind)
+defined_view (defined.Tuple ts) = (tuple, tuple_children ts.items)
+defined_view (defined.List t) = (list, (only, Some (kinds.Value t)) ∷ [])
+defined_view (defined.Option t) = (option, (only, Some (kinds.Value t)) ∷ [])
+defined_view (defined.Result o e) = (result, (ok, optional o) ∷ (err, optional e) ∷ [])
+defined_view (defined.Variant cs) = (variant, case_children cs.entries)
+defined_view (defined.Record fs) = (fields, value_children fs.entries)
+defined_view (defined.Flags ns) = (flags, name_children ns.keys)
+defined_view (defined.Enum ns) = (cases, name_children ns.keys)
+defined_view (defined.Alias t) = (alias, (only, Some (kinds.Value t)) ∷ [])
+defined_view (defined.Stream t) = (stream, (only, optional t) ∷ [])
+defined_view (defined.Future t) = (future, (only, optional t) ∷ [])
+
+abbrev pub defined_label : DefinedType → Plain
+defined_label d = (defined_view d).0
+
 abbrev pub defined_children : DefinedType → List (Slot × Option ItemKind)
-defined_children (defined.Tuple ts) = tuple_children ts.items
-defined_children (defined.List t) = (only, Some (kinds.Value t)) ∷ []
-defined_children (defined.Option t) = (only, Some (kinds.Value t)) ∷ []
-defined_children (defined.Result o e) = (ok, optional o) ∷ (err, optional e) ∷ []
-defined_children (defined.Variant cs) = case_children cs.entries
-defined_children (defined.Record fs) = value_children fs.entries
-defined_children (defined.Flags ns) = name_children ns.keys
-defined_children (defined.Enum ns) = name_children ns.keys
-defined_children (defined.Alias t) = (only, Some (kinds.Value t)) ∷ []
-defined_children (defined.Stream t) = (only, optional t) ∷ []
-defined_children (defined.Future t) = (only, optional t) ∷ []
+defined_children d = (defined_view d).1
 
 abbrev pub alias_children : Option ResourceAlias → List (Slot × Option ItemKind)
 alias_children None = []
@@ -111,3 +115,11 @@ sort_of (entries.Resource r) = sorts.Resource
 sort_of (entries.Func f) = sorts.Func
 sort_of (entries.Interface i) = sorts.Interface
 sort_of (entries.World w) = sorts.World
+
+-- what an entry is apart from the kinds in it; a resource is its origin
+abbrev pub label : ℕ → Entry → Label
+label origin (entries.Defined d) = plain (defined_label d)
+label origin (entries.Resource r) = resource origin (string_bytes r.name)
+label origin (entries.Func f) = plain (func f.is_async)
+label origin (entries.Interface i) = plain (interface (option_map string_bytes i.id))
+label origin (entries.World w) = plain (world (option_map string_bytes w.id))

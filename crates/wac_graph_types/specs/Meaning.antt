@@ -5,8 +5,8 @@ use Rattle.wac_graph_types.specs.declared.kind.ItemKind.{ItemKind}
 use Rattle.wac_graph_types.specs.declared.entry.Entry.{Entry}
 use Rattle.wac_graph_types.specs.declared.entry.Entry.TheVariants as entries
 use Rattle.wac_graph_types.specs.Kind.{form, named_by}
-use Rattle.wac_graph_types.specs.Entry.{Slot, only, children}
-use Rattle.wac_graph_types.specs.Label.{Label, plain, kind, absent, dangling, label}
+use Rattle.wac_graph_types.specs.Entry.{Slot, only, children, label}
+use Rattle.wac_graph_types.specs.Label.{Label, plain, kind, absent, dangling}
 
 -- a label over meanings, each in its slot
 mutual
@@ -58,11 +58,8 @@ abbrev pub IsInjective : (ℕ → ℕ) → Type 0
 IsInjective f = (i j : ℕ) → f i ≡ f j → i ≡ j
 
 abbrev pub IsResource : Entry → Type 0
-IsResource (entries.Defined d) = ⊥
 IsResource (entries.Resource r) = Unit {0}
-IsResource (entries.Func f) = ⊥
-IsResource (entries.Interface i) = ⊥
-IsResource (entries.World w) = ⊥
+IsResource _ = ⊥
 
 -- no two resources of the table have one origin
 abbrev pub IsOneToOne : List Entry → (ℕ → ℕ) → Type 0

@@ -3,7 +3,6 @@ use Rattle.std.specs.Prelude.{◌≡◌, ℕ, IsSome, List, length, slice_get, o
 use Rattle.std.specs.List.{AllByRecursion}
 use Rattle.wac_graph_types.specs.declared.kind.ItemKind.{ItemKind}
 use Rattle.wac_graph_types.specs.declared.kind.ItemKind.TheVariants as kinds
-use Rattle.wac_graph_types.specs.declared.kind.«Type».{«Type» as ItemType}
 use Rattle.wac_graph_types.specs.declared.kind.«Type».TheVariants as types
 use Rattle.wac_graph_types.specs.declared.kind.WorldId.{WorldId}
 use Rattle.wac_graph_types.specs.declared.kind.InterfaceId.{InterfaceId}
@@ -17,21 +16,9 @@ use Rattle.wac_graph_types.specs.Meaning.{meaning_at, IsOneToOne, IsEarlier, Nam
 use Rattle.wac_graph_types.specs.Table.{IsOfSort}
 
 -- an interface type's interface has an id
-abbrev pub type_has_id : List Entry → ItemType → Type 0
-type_has_id es (types.Resource id) = Unit {0}
-type_has_id es (types.Func id) = Unit {0}
-type_has_id es (types.Value v) = Unit {0}
-type_has_id es (types.Interface id) = IsSome (option_and_then (λ i. i.id) (option_and_then as_interface (slice_get es id.0)))
-type_has_id es (types.World id) = Unit {0}
-type_has_id es (types.Module id) = Unit {0}
-
 abbrev pub HasId : List Entry → ItemKind → Type 0
-HasId es (kinds.Ty t) = type_has_id es t
-HasId es (kinds.Func id) = Unit {0}
-HasId es (kinds.Instance id) = Unit {0}
-HasId es (kinds.Component id) = Unit {0}
-HasId es (kinds.Module id) = Unit {0}
-HasId es (kinds.Value v) = Unit {0}
+HasId es (kinds.Ty (types.Interface id)) = IsSome (option_and_then (λ i. i.id) (option_and_then as_interface (slice_get es id.0)))
+HasId es _ = Unit {0}
 
 -- the parts of a package
 pub record PackageParts : Type 0 where

@@ -7,7 +7,6 @@ use Rattle.wac_graph_types.specs.declared.entry.Resource.{Resource}
 use Rattle.wac_graph_types.specs.declared.entry.FuncType.{FuncType}
 use Rattle.wac_graph_types.specs.declared.entry.Interface.{Interface}
 use Rattle.wac_graph_types.specs.declared.entry.World.{World}
-use Rattle.wac_graph_types.specs.declared.kind.«Type».{«Type» as ItemType}
 use Rattle.wac_graph_types.specs.declared.kind.«Type».TheVariants as types
 use Rattle.wac_graph_types.specs.declared.kind.ItemKind.{ItemKind}
 use Rattle.wac_graph_types.specs.declared.kind.ItemKind.TheVariants as kinds
@@ -16,45 +15,27 @@ use Rattle.wac_graph_types.specs.Scope.{Named}
 
 abbrev pub as_defined : Entry → Option DefinedType
 as_defined (entries.Defined d) = Some d
-as_defined (entries.Resource r) = None
-as_defined (entries.Func f) = None
-as_defined (entries.Interface i) = None
-as_defined (entries.World w) = None
+as_defined _ = None
 
 abbrev pub as_resource : Entry → Option Resource
-as_resource (entries.Defined d) = None
 as_resource (entries.Resource r) = Some r
-as_resource (entries.Func f) = None
-as_resource (entries.Interface i) = None
-as_resource (entries.World w) = None
+as_resource _ = None
 
 abbrev pub as_func : Entry → Option FuncType
-as_func (entries.Defined d) = None
-as_func (entries.Resource r) = None
 as_func (entries.Func f) = Some f
-as_func (entries.Interface i) = None
-as_func (entries.World w) = None
+as_func _ = None
 
 abbrev pub as_interface : Entry → Option Interface
-as_interface (entries.Defined d) = None
-as_interface (entries.Resource r) = None
-as_interface (entries.Func f) = None
 as_interface (entries.Interface i) = Some i
-as_interface (entries.World w) = None
+as_interface _ = None
 
 abbrev pub as_world : Entry → Option World
-as_world (entries.Defined d) = None
-as_world (entries.Resource r) = None
-as_world (entries.Func f) = None
-as_world (entries.Interface i) = None
 as_world (entries.World w) = Some w
+as_world _ = None
 
 abbrev pub is_resource : Entry → Bool
-is_resource (entries.Defined d) = false
 is_resource (entries.Resource r) = true
-is_resource (entries.Func f) = false
-is_resource (entries.Interface i) = false
-is_resource (entries.World w) = false
+is_resource _ = false
 
 -- what an interface or world exports, and what a world imports, by name and in order
 
@@ -67,28 +48,15 @@ world_exports es n = elim (option_and_then as_world (slice_get es n)) [ None ↦
 abbrev pub world_imports : List Entry → ℕ → Named ItemKind
 world_imports es n = elim (option_and_then as_world (slice_get es n)) [ None ↦ [] | Some w ↦ by_name w.imports.entries ]
 
-abbrev pub type_exports : List Entry → ItemType → Named ItemKind
-type_exports es (types.Resource id) = []
-type_exports es (types.Func id) = []
-type_exports es (types.Value v) = []
-type_exports es (types.Interface id) = interface_exports es id.0
-type_exports es (types.World id) = world_exports es id.0
-type_exports es (types.Module id) = []
-
 -- what an interface, instance, world or component exports
 abbrev pub kind_exports : List Entry → ItemKind → Named ItemKind
-kind_exports es (kinds.Ty t) = type_exports es t
-kind_exports es (kinds.Func id) = []
+kind_exports es (kinds.Ty (types.Interface id)) = interface_exports es id.0
+kind_exports es (kinds.Ty (types.World id)) = world_exports es id.0
 kind_exports es (kinds.Instance id) = interface_exports es id.0
 kind_exports es (kinds.Component id) = world_exports es id.0
-kind_exports es (kinds.Module id) = []
-kind_exports es (kinds.Value v) = []
+kind_exports es _ = []
 
 -- what an instance exports
 abbrev pub instance_exports : List Entry → ItemKind → Named ItemKind
-instance_exports es (kinds.Ty t) = []
-instance_exports es (kinds.Func id) = []
 instance_exports es (kinds.Instance id) = interface_exports es id.0
-instance_exports es (kinds.Component id) = []
-instance_exports es (kinds.Module id) = []
-instance_exports es (kinds.Value v) = []
+instance_exports es _ = []

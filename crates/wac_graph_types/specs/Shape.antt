@@ -11,8 +11,8 @@ use Rattle.wac_graph_types.specs.declared.entry.DefinedType.{DefinedType}
 use Rattle.wac_graph_types.specs.declared.entry.DefinedType.TheVariants as types
 use Rattle.wac_graph_types.specs.declared.entry.Entry.{Entry}
 use Rattle.wac_graph_types.specs.Kind.{Form, a_resource, a_func, an_interface, a_world, func, instance, component, a_core_module, core_module, a_value, value, primitive, borrow, own, defined}
-use Rattle.wac_graph_types.specs.Entry.{Slot, only, ok, err, named, given, owner, used, import, export, children}
-use Rattle.wac_graph_types.specs.Label.{Label, plain, resource, Plain, kind, absent, alias, label}
+use Rattle.wac_graph_types.specs.Entry.{Slot, only, ok, err, named, given, owner, used, import, export, children, label}
+use Rattle.wac_graph_types.specs.Label.{Label, plain, resource, Plain, kind, absent, alias}
 use Rattle.wac_graph_types.specs.Meaning.{Meaning, node, Row, done, more, of_kind, of_child, row}
 use Rattle.wac_graph_types.specs.Names.{by_name}
 use Rattle.wac_graph_types.specs.Scope.{Named, look_up}
@@ -27,35 +27,22 @@ kind_of f entry = node (plain (kind f)) (more only entry done)
 abbrev pub bare_kind : Form → Meaning
 bare_kind f = node (plain (kind f)) done
 
-abbrev pub plain_form : Plain → Option Form
-plain_form (kind f) = Some f
-plain_form _ = None
-
-abbrev pub label_form : Label → Option Form
-label_form (plain p) = plain_form p
-label_form (resource o n) = None
-
 -- the form of a kind
 abbrev pub form_of : Meaning → Option Form
-form_of (node l r) = label_form l
+form_of (node (plain (kind f)) r) = Some f
+form_of _ = None
 
 -- what is not given
 abbrev pub nothing : Meaning
 nothing = node (plain absent) done
 
-abbrev pub first_of_row : Row → Meaning
-first_of_row done = nothing
-first_of_row (more s m r) = m
-
 -- what the entry means that a kind names
 abbrev pub entry_of : Meaning → Meaning
-entry_of (node l r) = first_of_row r
+entry_of (node l (more s m r)) = m
+entry_of (node l done) = nothing
 
 abbrev pub row_of : Meaning → Row
 row_of (node l r) = r
-
-abbrev pub label_of : Meaning → Label
-label_of (node l r) = l
 
 -- ---- what kinds are
 
@@ -95,25 +82,11 @@ is_world_form _ = false
 
 -- an interface, instance, world or component
 abbrev pub has_exports_form : Form → Bool
-has_exports_form a_resource = false
-has_exports_form a_func = false
-has_exports_form an_interface = true
-has_exports_form a_world = true
-has_exports_form func = false
-has_exports_form instance = true
-has_exports_form component = true
-has_exports_form (a_core_module n) = false
-has_exports_form (core_module n) = false
-has_exports_form (a_value v) = false
-has_exports_form (value v) = false
-
-abbrev pub formed : (Form → Bool) → Option Form → Bool
-formed test None = false
-formed test (Some f) = test f
+has_exports_form f = is_interface_form f || is_instance_form f || is_world_form f
 
 -- whether the kind's form passes the test
 abbrev pub is_a : (Form → Bool) → Meaning → Bool
-is_a test m = formed test (form_of m)
+is_a test m = elim (form_of m) [ None ↦ false | Some f ↦ test f ]
 
 -- the kind's form passes the test
 abbrev pub IsA : (Form → Bool) → Meaning → Type 0
@@ -141,13 +114,9 @@ form_word (core_module n) = codes "module"
 form_word (a_value v) = codes "value type"
 form_word (value v) = codes "value"
 
-abbrev pub word_of_form : Option Form → List ℕ
-word_of_form None = []
-word_of_form (Some f) = form_word f
-
 -- the word for a kind
 abbrev pub described : Meaning → List ℕ
-described m = word_of_form (form_of m)
+described m = elim (form_of m) [ None ↦ [] | Some f ↦ form_word f ]
 
 -- ---- from one kind to another
 
@@ -168,17 +137,10 @@ abbrev pub type_of_form : Form → Form
 type_of_form (value v) = a_value v
 type_of_form f = f
 
-abbrev pub plain_under : (Form → Form) → Plain → Plain
-plain_under f (kind g) = kind (f g)
-plain_under f p = p
-
-abbrev pub label_under : (Form → Form) → Label → Label
-label_under f (plain p) = plain (plain_under f p)
-label_under f (resource o n) = resource o n
-
 -- a kind with another form, over the same entry
 abbrev pub formed_as : (Form → Form) → Meaning → Meaning
-formed_as f (node l r) = node (label_under f l) r
+formed_as f (node (plain (kind g)) r) = node (plain (kind (f g))) r
+formed_as f m = m
 
 -- the kind of an item of a type
 abbrev pub promoted : Meaning → Meaning
@@ -233,18 +195,11 @@ uses_of m = items_in slot_use (row_of m)
 abbrev pub export_of : Meaning → List ℕ → Option Meaning
 export_of m name = elim (is_a has_exports_form m) [ true ↦ look_up name (exports_of (entry_of m)) | false ↦ None ]
 
-abbrev pub plain_id : Plain → Option (List ℕ)
-plain_id (Plain.interface id) = id
-plain_id (Plain.world id) = id
-plain_id _ = None
-
-abbrev pub label_id : Label → Option (List ℕ)
-label_id (plain p) = plain_id p
-label_id (resource o n) = None
-
 -- the id of an interface's or a world's entry
 abbrev pub id_of : Meaning → Option (List ℕ)
-id_of m = label_id (label_of m)
+id_of (node (plain (Plain.interface id)) r) = id
+id_of (node (plain (Plain.world id)) r) = id
+id_of _ = None
 
 -- ---- entries made of their parts
 
@@ -253,26 +208,24 @@ abbrev pub row_from : List (Slot × Meaning) → Row
 row_from [] = done
 row_from (c ∷ cs) = more c.0 c.1 (row_from cs)
 
-abbrev pub exporting : Named Meaning → List (Slot × Meaning)
-exporting all = map (λ e. (export e.0, e.1)) all
-
-abbrev pub importing : Named Meaning → List (Slot × Meaning)
-importing all = map (λ e. (import e.0, e.1)) all
+-- named meanings, each in the slot of its name
+abbrev pub in_slots : (List ℕ → Slot) → Named Meaning → List (Slot × Meaning)
+in_slots slot all = map (λ e. (slot e.0, e.1)) all
 
 abbrev pub using : Uses → List (Slot × Meaning)
 using all = map (λ e. (used e.0.0 e.0.1, e.1)) all
 
 abbrev pub naming_each : Named Meaning → List (Slot × Meaning)
-naming_each all = map (λ e. (named e.0, e.1)) all
+naming_each all = in_slots named all
 
 abbrev pub in_order : List Meaning → List (Slot × Meaning)
 in_order all = map (λ m. (only, m)) all
 
 abbrev pub interface_entry : Option (List ℕ) → Uses → Named Meaning → Meaning
-interface_entry id uses exports = node (plain (Plain.interface id)) (row_from (using uses ++ exporting exports))
+interface_entry id uses exports = node (plain (Plain.interface id)) (row_from (using uses ++ in_slots export exports))
 
 abbrev pub world_entry : Option (List ℕ) → Uses → Named Meaning → Named Meaning → Meaning
-world_entry id uses imports exports = node (plain (Plain.world id)) (row_from (using uses ++ importing imports ++ exporting exports))
+world_entry id uses imports exports = node (plain (Plain.world id)) (row_from (using uses ++ in_slots import imports ++ in_slots export exports))
 
 -- the results, each in its slot, and the parameters
 abbrev pub func_entry : Bool → List (Slot × Meaning) → Named Meaning → Meaning
@@ -284,7 +237,7 @@ one_result m = (given None, m) ∷ []
 
 -- results with names
 abbrev pub named_results : Named Meaning → List (Slot × Meaning)
-named_results all = map (λ e. (given (Some e.0), e.1)) all
+named_results all = in_slots (λ n. given (Some n)) all
 
 abbrev pub in_slot_owner : Row → Meaning
 in_slot_owner done = nothing
@@ -339,7 +292,8 @@ is_borrow_form _ = false
 
 -- whether a label contains a borrow, given whether a part does: a resource doesn't, whatever its alias is
 abbrev pub borrows : Label → Bool → Bool
-borrows (plain p) rest = formed is_borrow_form (plain_form p) || rest
+borrows (plain (kind f)) rest = is_borrow_form f || rest
+borrows (plain _) rest = rest
 borrows (resource o n) rest = false
 
 abbrev mutual

@@ -1,6 +1,6 @@
 //! Whether two kinds mean the same.
 ghost use Rattle.std.specs.Prelude.{option_map, string_bytes, ◌≡◌, ◌≢◌, ℕ, ◌<◌, length, IsTrue, ◌↔◌, IfSome};
-ghost use Rattle.wac_graph_types.specs.Label.{label, defined_label};
+ghost use Rattle.wac_graph_types.specs.Entry.{label, defined_label};
 ghost use Rattle.wac_graph_types.specs.Meaning.{IsEarlier, IsOneToOne, IsResource, NamesBefore, meaning, meaning_at, of_child};
 ghost use Rattle.wac_graph_types.specs.Pairs.{AreAlike, Holds};
 

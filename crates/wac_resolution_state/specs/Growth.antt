@@ -10,7 +10,7 @@ use Rattle.wac_graph_types.specs.declared.kind.InterfaceId.{InterfaceId}
 use Rattle.wac_graph_types.specs.declared.kind.WorldId.{WorldId}
 use Rattle.wac_graph_types.specs.declared.entry.DefinedType.{DefinedType}
 use Rattle.wac_graph_types.specs.Growth.{KeepsNames}
-use Rattle.wac_graph_types.specs.Label.{defined_label}
+use Rattle.wac_graph_types.specs.Entry.{defined_label}
 use Rattle.wac_graph_types.specs.Meaning.{Meaning}
 use Rattle.wac_graph_types.specs.Shape.{defined_value, defined_parts}
 use Rattle.wac_graph_types.specs.Table.{Names}

@@ -11,8 +11,8 @@ pub use Rattle.wac_ast_types.specs.Types.{optional_of, ty_of}
 pub use Rattle.wac_graph.specs.Graph.{Parts}
 pub use Rattle.wac_graph.specs.Means.{declared_count, entry_means, means, origin_at}
 pub use Rattle.wac_graph.specs.Origin.{Naming}
-pub use Rattle.wac_graph_types.specs.Entry.{Slot, case_children, named_result_children, optional, tuple_children, value_children}
-pub use Rattle.wac_graph_types.specs.Label.{Plain, defined_label}
+pub use Rattle.wac_graph_types.specs.Entry.{Slot, case_children, named_result_children, optional, tuple_children, value_children, defined_label}
+pub use Rattle.wac_graph_types.specs.Label.{Plain}
 pub use Rattle.wac_graph_types.specs.Meaning.{EachKind, Meaning, meaning}
 pub use Rattle.wac_graph_types.specs.Names.{by_name}
 pub use Rattle.wac_graph_types.specs.Scope.{IsFresh, Named, Scope, StandsFor, look_up, with_named}
