@@ -189,11 +189,13 @@ told_tried next s front (k ∷ ks) n few =
     ∙ rest ∙ ap (λ (l : List Token). refusal next s (expected (take 10 l) (n + 1 + length ks))) (append_assoc front (k ∷ []) ks) ∙ ap (λ (m : ℕ). refusal next s (expected (take 10 (front ++ k ∷ ks)) m)) more
 
 begins_few : (s : Sym) → ltb (length (begins s)) 100 ≡ true
-begins_few g.document = refl
+begins_few (g.list_items g.arguments) = refl
+begins_few (g.more_items g.arguments) = refl
 begins_few _ = refl
 
 begins_some : (s : Sym) → ltb 0 (length (begins s)) ≡ true
-begins_some g.document = refl
+begins_some (g.list_items g.arguments) = refl
+begins_some (g.more_items g.arguments) = refl
 begins_some _ = refl
 
 -- neither this token nor one of the symbol's first tokens is next
