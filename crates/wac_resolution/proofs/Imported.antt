@@ -33,7 +33,7 @@ one_more_import c name k id =
 
 -- the tests of an import's name read no number of resources
 without_resources : (s : Given) (c : Composition) (n : ℕ) (p : Places) (e : Error) (x : ImportStatement) (name : List ℕ) → ImportNameBroken s (with_resources c n) p e x name → ImportNameBroken s c p e x name
-without_resources s c n p e x name (inl h) = inl (record { kind = h.kind; previous = h.previous; imported = h.imported; place = h.place; error = h.error })
+without_resources s c n p e x name (inl h) = inl (h.0, h.1, h.2, h.3, h.4)
 without_resources s c n p e x name (inr h) = inr h
 
 module _ (context : Context) (rules : Rules) (old mid : Parts) (before : Root) (x : Externs) (s : ImportStatement) (name : List ℕ) (k : ItemKind)

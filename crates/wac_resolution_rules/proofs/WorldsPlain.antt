@@ -142,7 +142,7 @@ declared_plain context old (TypeStatement.interface d) = λ i m n.
     (entry : Meaning) × interface_plain context (root_scope old) old.resources (declared_id context d.id.string) d.items i entry n × (m ≡ kind_of an_interface entry)
 declared_plain context old (TypeStatement.world d) = λ i m n.
     (entry : Meaning) × world_plain context (root_scope old) old.resources (declared_id context d.id.string) d.items i entry n × (m ≡ kind_of a_world entry)
-declared_plain context old (TypeStatement.ty d) = decl_plain (root_scope old) old.resources d
+declared_plain context old (TypeStatement.ty d) = λ i m n. decl_plain (root_scope old) old.resources d i m n
 
 -- a type statement yields what its plain tree yields
 pub declares_plain : (context : Context) (old : Composition) (s : TypeStatement) → Declares context old (walk_type_statement (changed plain) no_docs s) ≡ Declares context old s

@@ -9,7 +9,7 @@ use Rattle.wac_resolution_rules.specs.Worlds.{IsFuncRef, HasInterfaceItem, IsInt
 use Rattle.wac_resolution_rules.specs.Composition.{Composition, root_scope}
 use Rattle.wac_resolution_rules.specs.TypeStatements.{declared_id, identifier_of, DeclaresKind, Defines, Declares}
 use Rattle.wac_resolution_rules.specs.BrokenBodies.{Owner, of_interface, of_world}
-use Rattle.wac_resolution_rules.specs.BrokenWorlds.{FuncRefBroken, InterfaceItemBroken, InterfaceBroken, ExternTypeBroken, InstanceBroken, ExternBroken, WorldItemBroken, IsSecondEntry, WorldRefBroken, IsNoWorld, IsIncludeConflict, IsLeftOver, TakingBroken, IncludeBroken, WorldBroken, DefinitionBroken, DeclarationBroken}
+use Rattle.wac_resolution_rules.specs.BrokenWorlds.{FuncRefBroken, InterfaceItemBroken, InterfaceBroken, ExternTypeBroken, InstanceBroken, ExternBroken, WorldItemBroken, IsSecondEntry, WorldRefBroken, IsNoWorld, IsIncludeConflict, IsLeftOver, TakingBroken, IncludeBroken, WorldBroken, KindBroken, DefinitionBroken, DeclarationBroken}
 use Rattle.wac_resolution_rules.specs.Places.{Places, bound_in_interface, bound_in_world}
 use Rattle.wac_resolution_rules.proofs.StepLaws.{fails_stop, steps_once}
 use Rattle.wac_resolution_rules.proofs.TypesOnce.{stands_once}

@@ -34,12 +34,12 @@ use Rattle.wac_resolution_rules.specs.Places.{Places, names_at}
 -- the name is imported already
 abbrev pub IsImportedAlready : Composition → Places → List ℕ → Span → Option (List ℕ) → Error → Type 0
 IsImportedAlready c p name span help e =
-    IsTaken (imports c) p.imported name (λ at. duplicate_extern_name externs.Import name span at help) e
+    IsTaken (imports c) p.imported name (λ previous. duplicate_extern_name externs.Import name span previous help) e
 
 -- the name is exported already
 abbrev pub IsExportedAlready : Composition → Places → List ℕ → Span → Option (List ℕ) → Error → Type 0
 IsExportedAlready c p name span help e =
-    IsTaken c.exports p.exported name (λ at. duplicate_extern_name externs.Export name span at help) e
+    IsTaken c.exports p.exported name (λ previous. duplicate_extern_name externs.Export name span previous help) e
 
 -- no import or export may have the name
 abbrev pub IsInvalidName : Given → List ℕ → ExternKind → Span → Error → Type 0
