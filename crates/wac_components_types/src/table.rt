@@ -62,12 +62,12 @@ pub struct Table {
 }
 
 impl Model for Table {
-    ghost use Rattle.indexmap.specs.IndexSet.{index_set_len};
+    ghost use Rattle.indexmap.specs.IndexSet.{index_set_len as count};
     ghost use Rattle.wac_components_types.specs.Closed.{TableView, viewed};
 
     ghost Value = { TableView };
 
-    ghost view = { λ t. viewed (index_set_len t.names) t.types.items t.parts.items t.instances.items t.components.items };
+    ghost view = { λ t. viewed (count t.names) t.types.items t.parts.items t.instances.items t.components.items };
 }
 
 impl Drop for Table {

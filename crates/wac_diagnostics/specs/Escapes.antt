@@ -9,12 +9,15 @@ data_escape c = if nat_eq c 37 then Some (codes "%25") else (if nat_eq c 13 then
 abbrev pub property_escape : ℕ → Option (List ℕ)
 property_escape c = if nat_eq c 58 then Some (codes "%3A") else (if nat_eq c 44 then Some (codes "%2C") else data_escape c)
 
--- what a character is written as
+-- a character, or what it is written as
+abbrev pub escaped : Option (List ℕ) → ℕ → List ℕ
+escaped escape c = unwrap_or escape (encode_utf8 c)
+
 abbrev pub data_character : ℕ → List ℕ
-data_character c = unwrap_or (data_escape c) (encode_utf8 c)
+data_character c = escaped (data_escape c) c
 
 abbrev pub property_character : ℕ → List ℕ
-property_character c = unwrap_or (property_escape c) (encode_utf8 c)
+property_character c = escaped (property_escape c) c
 
 -- a text, as the text of a command and as the value of a property
 abbrev pub data_text : List ℕ → List ℕ

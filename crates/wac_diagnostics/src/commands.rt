@@ -1,6 +1,6 @@
 //! Diagnostics as commands of a GitHub workflow.
-ghost use Rattle.std.specs.Prelude.{◌≡◌, ◌++◌, OnOk, string_bytes, encode_utf8, option_map, unwrap_or};
-ghost use Rattle.wac_diagnostics.specs.Escapes.{data_escape, data_text, property_escape, property_text};
+ghost use Rattle.std.specs.Prelude.{◌≡◌, ◌++◌, OnOk, string_bytes, option_copied, option_map};
+ghost use Rattle.wac_diagnostics.specs.Escapes.{data_escape, data_text, escaped, property_escape, property_text};
 
 use crate::diagnostic::{Diagnostic, Note};
 use crate::places::Extent;
@@ -94,7 +94,7 @@ fn property_escape(c: char) -> Option<&'static str>
 
 /// Appends what a character is written as.
 fn push_escaped(out: &mut String, escape: Option<&'static str>, c: char) -> Result<(), AllocError>
-    ensures { OnOk result (string_bytes out.new ≡ string_bytes out.old ++ unwrap_or (option_map (λ text. text.now) escape.entry) (encode_utf8 c)) }
+    ensures { OnOk result (string_bytes out.new ≡ string_bytes out.old ++ escaped (option_copied escape.entry) c) }
 {
     match escape {
         Some(escape) => out.push_str(escape),

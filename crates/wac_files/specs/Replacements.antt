@@ -1,5 +1,5 @@
 -- What a file system replaced.
-use Rattle.std.specs.Prelude.{ℕ, List, refl}
+use Rattle.std.specs.Prelude.{◌≡◌, ℕ, List, [], ◌∷◌, ◌++◌, refl}
 use Rattle.std.specs.Coded.{Coded, code_by, coded×, coded_list, coded_ℕ}
 
 -- the file that a path leads to held some bytes, and was made to hold a text
@@ -16,3 +16,7 @@ replacement_code =
 
 abbrev pub replacement : List ℕ → List ℕ → List ℕ → Replacement
 replacement path held text = record { path = path; held = held; text = text }
+
+-- after the replacements comes one more
+abbrev pub Appends : List Replacement → List Replacement → List ℕ → List ℕ → List ℕ → Type 0
+Appends old new path held text = new ≡ old ++ replacement path held text ∷ []

@@ -1,6 +1,6 @@
 // What a command asks of files.
-ghost use Rattle.std.specs.Prelude.{◌≡◌, List, [], ◌∷◌, ◌++◌, IfErr, IfOk};
-ghost use Rattle.wac_files.specs.Replacements.{Replacement, replacement};
+ghost use Rattle.std.specs.Prelude.{◌≡◌, List, IfErr, IfOk};
+ghost use Rattle.wac_files.specs.Replacements.{Replacement, Appends};
 
 use crate::error::FileError;
 use std::alloc::Global;
@@ -54,6 +54,6 @@ pub trait FileSystem {
         held: &[u8],
         text: &[u8],
     ) -> Result<(), FileError>
-        ensures done { IfOk result (λ _. replaced self.new ≡ replaced self.old ++ replacement path.now held.now text.now ∷ []) }
+        ensures done { IfOk result (λ _. Appends (replaced self.old) (replaced self.new) path.now held.now text.now) }
         ensures failed { IfErr result (λ _. replaced self.new ≡ replaced self.old) };
 }

@@ -38,6 +38,10 @@ text_in uri documents = option_map (λ document. string_bytes document.text) (do
 abbrev pub others : List ℕ → List Document → List Document
 others uri documents = filter (λ document. not (is_named uri document)) documents
 
+-- the documents with this one in the place of the one of its name, if there is one
+abbrev pub with_document : Document → List Document → List Document
+with_document document documents = others (string_bytes document.uri) documents ++ document ∷ []
+
 -- a document of this name and this text comes in the place of the one of its name, or is added
 pub record Puts (uri text : List ℕ) (old new : List Document) : Type 0 where
   pub document : Document

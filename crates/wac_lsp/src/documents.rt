@@ -1,6 +1,6 @@
 //! The documents that a client has open.
-ghost use Rattle.std.specs.Prelude.{◌≡◌, ◌∷◌, [], ◌++◌, not, OnOk, option_map, string_bytes};
-ghost use Rattle.wac_lsp.specs.Opened.{document_in, is_named, others, text_in};
+ghost use Rattle.std.specs.Prelude.{◌≡◌, not, OnOk, option_map, string_bytes};
+ghost use Rattle.wac_lsp.specs.Opened.{document_in, is_named, others, text_in, with_document};
 
 use std::alloc::AllocError;
 
@@ -80,7 +80,7 @@ pub(crate) fn close(documents: &mut Vec<Document>, uri: &str)
 
 /// Puts a document in the place of the one of its name, or adds it.
 pub(crate) fn put(documents: &mut Vec<Document>, document: Document) -> Result<(), AllocError>
-    ensures { OnOk result (documents.new.items ≡ others (string_bytes document.uri) documents.old.items ++ document ∷ []) }
+    ensures { OnOk result (documents.new.items ≡ with_document document documents.old.items) }
 {
     close(documents, document.uri.as_str());
     match documents.push(document) {

@@ -192,14 +192,14 @@ fn write_missing_export<W: fmt::Write>(
     f: &mut fmt::Formatter<W>,
     kind: &str,
     path: &str,
-    component: &str,
+    owner: &str,
     export: &str,
 ) -> fmt::Result
-    ensures { WritesOnOk W.write_str_gives f.old result (missing_export kind.now path.now component.now export.now) f.new }
+    ensures { WritesOnOk W.write_str_gives f.old result (missing_export kind.now path.now owner.now export.now) f.new }
 {
     write!(
         f,
-        "{kind} `{path}` in package `{component}` has no export named `{export}`"
+        "{kind} `{path}` in package `{owner}` has no export named `{export}`"
     )
 }
 
