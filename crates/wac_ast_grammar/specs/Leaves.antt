@@ -122,6 +122,10 @@ of_leaves Q =
 abbrev pub DocumentPasses : (Leaf → Bool) → Document → Type 0
 DocumentPasses test x = walk_document (holds_with_spans (of_leaves (λ leaf. test leaf ≡ true)) (λ s. test (Leaf.span s) ≡ true)) (λ ds. test (Leaf.docs ds) ≡ true) x
 
+-- the test passes at each of the tree's leaves
+abbrev pub LeavesPass : (Leaf → Bool) → Document → Type 0
+LeavesPass test x = AllByRecursion (λ leaf. test leaf ≡ true) (walk_document leaves docs_leaf x)
+
 -- one change after another
 abbrev pub after : Change → Change → Change
 after f g =

@@ -1,11 +1,12 @@
 -- What a rejection says of the items: the first place where none that derives can continue, and what can occur there.
-use Rattle.std.specs.Prelude.{◌≡◌, List, [], ◌∷◌, ◌++◌, true}
+use Rattle.std.specs.Prelude.{◌≡◌, ◌⊎◌, List, [], ◌∷◌, ◌++◌, true, Ok}
 use Rattle.wac_lexer.specs.declared.token.Token.{Token}
 use Rattle.wac_lexer.specs.declared.token.Token.TheVariants as t
 use Rattle.wac_lexer.specs.Item.{Item}
-use Rattle.wac_ast_grammar.specs.Grammar.{Sym, TreeOf, Derives}
-use Rattle.wac_ast_grammar.specs.Reading.{Standing, at_once, closing, behind_comma, Stop, before}
+use Rattle.wac_ast_grammar.specs.Grammar.{Sym, argument, TreeOf, Derives}
+use Rattle.wac_ast_grammar.specs.Reading.{Standing, at_once, closing, behind_comma, Stop, before, read}
 use Rattle.wac_ast_grammar.specs.Viable.{Viable, Similar}
+use Rattle.wac_ast_grammar.specs.Arguments.{CutShort}
 use Rattle.wac_ast_grammar.specs.Possible.{named, IsOf}
 
 -- With the first of these items nothing that begins like `front` continues; or
@@ -36,3 +37,11 @@ Stands s lead left k behind_comma = EndsInList s lead left × CanFollowComma s l
 -- with any right text, or where the rejection is reported at the item before, in that item's place.
 abbrev pub Stopped : Sym → List Item → Stop → Type 0
 Stopped s xs stop = (lead : List Item) × (xs ≡ (lead ++ before stop.why) ++ stop.left) × Viable s (lead ++ before stop.why) × Fault s (lead ++ before stop.why) stop.left × ((m : Standing) (k : Token) → named m k stop.expected ≡ true → Stands s lead stop.left k m)
+
+-- So it is where an argument was to be read, or the input ends after the argument's dots.
+abbrev pub ArgumentStopped : List Item → Stop → Type 0
+ArgumentStopped xs stop = Stopped argument xs stop ⊎ CutShort xs stop
+
+-- Where a tree is read of the items before this one, the item does not continue them.
+abbrev pub EndsBefore : (s : Sym) → List Item → Item → List Item → TreeOf s → Type 0
+EndsBefore s front x rest tree = read s (front ++ x ∷ rest) ≡ Ok (tree, x ∷ rest) → Fault s front (x ∷ rest)

@@ -1,5 +1,5 @@
 -- What a sink that passes bytes on in blocks holds.
-use Rattle.std.specs.Prelude.{◌≡◌, refl, ℕ, ◌-◌, ◌==◌, min, List, [], ◌∷◌, ◌++◌, length, take, codes, Option, Some, None, if◌then◌else◌}
+use Rattle.std.specs.Prelude.{◌≡◌, refl, ℕ, ◌-◌, ◌≤◌, ◌==◌, min, List, [], ◌∷◌, ◌++◌, length, take, drop, codes, Option, Some, None, if◌then◌else◌}
 
 -- a sink of blocks over a sink
 pub record Holding : Type 0 where
@@ -13,6 +13,32 @@ pub record Holding : Type 0 where
   -- what no call changes: how many bytes the sink below was given before, and which borrow it is, where it is one
   pub before : ℕ
   pub borrow : ℕ
+
+-- such a sink over this sink, with no byte held
+abbrev pub over : {S : Type 0} → (S → List ℕ) → (S → ℕ) → (S → ℕ) → S → Holding
+over bytes failures borrow sink =
+    record {
+      sunk = bytes sink;
+      held = [];
+      room = 8192;
+      failures = failures sink;
+      before = length (bytes sink);
+      borrow = borrow sink;
+    }
+
+-- The same with a block whose bytes from a start to before an end are held. It has moved these to the sink below.
+abbrev pub with_block : List ℕ → ℕ → ℕ → List ℕ → Holding → Holding
+with_block block start end moved h =
+    record h { held = drop start (take end block); room = 8192 - end; before = h.before - length moved }
+
+-- this sink is the one below, and was given no fewer bytes than before
+abbrev pub IsBelow : {S : Type 0} → (S → List ℕ) → (S → ℕ) → (S → ℕ) → S → Holding → Type 0
+IsBelow bytes failures borrow sink h =
+    (bytes sink ≡ h.sunk) × (failures sink ≡ h.failures) × (borrow sink ≡ h.borrow) × (h.before ≤ length h.sunk)
+
+-- nothing is held any more, so there is room for a whole block, and the sink below did not fail
+abbrev pub IsEmptied : Holding → Holding → Type 0
+IsEmptied old new = (new.held ≡ []) × (new.room ≡ 8192) × (new.failures ≡ old.failures)
 
 -- What such a sink was given. First comes what no call changes, so that a lender knows this when it is returned.
 abbrev pub given : Holding → List ℕ

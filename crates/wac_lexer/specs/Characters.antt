@@ -1,5 +1,5 @@
 -- The characters that a source may not have.
-use Rattle.std.specs.Prelude.{◌≡◌, refl, ℕ, ◌+◌, ◌++◌, sum_by, Bool, ◌&&◌, ◌||◌, nat_eq, nat_lt, nat_le, List, [], ◌∷◌, if◌then◌else◌, Option, Some, None}
+use Rattle.std.specs.Prelude.{◌≡◌, refl, ℕ, ◌+◌, ◌++◌, sum_by, Bool, ◌&&◌, ◌||◌, nat_eq, nat_lt, nat_le, List, [], ◌∷◌, drop, if◌then◌else◌, Option, Some, None, MatchOption}
 use Rattle.std.specs.Char.{len_utf8}
 use Rattle.std.specs.List.{AllByRecursion}
 use Rattle.std.specs.Str.{chars}
@@ -42,6 +42,10 @@ refused_from place [] = None
 refused_from place (c ∷ cs) =
     elim (fault_of c) [ Some fault ↦ Some (fault, span place (len_utf8 c)) | None ↦ refused_from (place + len_utf8 c) cs ]
 
+-- the first rejected character of a source that does not come before a place
+abbrev pub refused_behind : List ℕ → ℕ → Option (Error × Span)
+refused_behind source place = refused_from place (chars (drop place source))
+
 -- the first rejected character of a text
 abbrev pub refused : List ℕ → Option (Error × Span)
 refused text = refused_from 0 (chars text)
@@ -55,6 +59,11 @@ pub record IsFirstRefused (text : List ℕ) (fault : Error) (at : Span) : Type 0
   pub passed : AllByRecursion (λ c. fault_of c ≡ None) before
   pub is : fault_of character ≡ Some fault
   pub place : at ≡ span (sum_by len_utf8 before) (len_utf8 character)
+
+-- what is found in a text is its first rejected character, or that it has none
+abbrev pub FindsRefused : List ℕ → Option (Error × Span) → Type 0
+FindsRefused text found =
+    MatchOption found (AllByRecursion (λ c. fault_of c ≡ None) (chars text)) (λ f. IsFirstRefused text f.0 f.1)
 
 -- an example: TAB passes, and after it U+202A is rejected
 override : refused (tab ∷ 0xe2 ∷ 0x80 ∷ 0xaa ∷ []) ≡ Some (DisallowedBidirectionalOverride 0x202a, span 1 3)

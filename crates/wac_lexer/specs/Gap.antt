@@ -2,8 +2,8 @@
 use Rattle.std.specs.Prelude.{◌≡◌, ◌≢◌, ◌≤◌, ◌⊎◌, ℕ, ◌+◌, true, List, [], ◌∷◌, ◌++◌, drop, length, codes}
 use Rattle.std.specs.List.{concat, AllByRecursion}
 use Rattle.wac_lexer.specs.Ascii.{line_feed}
-use Rattle.wac_lexer.specs.Comments.{Inside, is_blank}
-use Rattle.wac_lexer.specs.Docs.{doc_of_part}
+use Rattle.wac_lexer.specs.Comments.{Inside, gap, is_blank}
+use Rattle.wac_lexer.specs.Docs.{doc_of_part, docs_at}
 use Rattle.wac_lexer.specs.Item.{Doc}
 
 -- a space, TAB, CR or LF
@@ -41,3 +41,9 @@ pub record IsLongestGap (text : List ℕ) (n : ℕ) : Type 0 where
 abbrev pub docs_among : ℕ → List (List ℕ) → List Doc
 docs_among place [] = []
 docs_among place (part ∷ parts) = doc_of_part place part ++ docs_among (place + length part) parts
+
+-- the docs of a place are those among the blanks and comments of its gap
+abbrev pub DocsStandInGap : List ℕ → ℕ → List (List ℕ) → Type 0
+DocsStandInGap source place parts =
+    let text = drop place source in
+    Gap text parts (drop (gap text) text) → docs_at source place ≡ docs_among place parts

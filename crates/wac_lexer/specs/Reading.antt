@@ -13,6 +13,10 @@ pub record Reading : Type 0 where
   pub last : Span
   pub scans : ℕ
 
+-- a lexer of this source, read up to this place
+abbrev pub reading : List ℕ → ℕ → Span → ℕ → Reading
+reading source place last scans = record { source = source; place = place; last = last; scans = scans }
+
 -- the items that are still to come
 unfoldable pub left : Reading → List Item
 left reading = items_from reading.source reading.place
@@ -90,3 +94,7 @@ pub record IsAhead (source : List ℕ) (place : ℕ) (first second : Handed) (sc
   pub first_is : IsFound source (items_from source place) first
   pub second_is : IsFound source (items_behind source first) second
   pub bound : scans ≤ items_before source place + 2
+
+-- what every lexer keeps
+abbrev pub Keeps : Reading → Handed → Handed → Type 0
+Keeps r first second = IsWithin r.source r.place r.last × IsAhead r.source r.place first second r.scans

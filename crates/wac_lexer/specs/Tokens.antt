@@ -1,5 +1,5 @@
 -- Which token a whole text is, and the longest prefix of a text that is one.
-use Rattle.std.specs.Prelude.{◌≡◌, ◌<◌, ◌≤◌, ◌⊎◌, ℕ, zero, suc, List, [], ◌∷◌, take, length, Option, Some, None, codes, refl, if◌then◌else◌}
+use Rattle.std.specs.Prelude.{◌≡◌, ◌<◌, ◌≤◌, ◌⊎◌, ℕ, zero, suc, List, [], ◌∷◌, take, length, Option, Some, None, MatchOption, codes, refl, if◌then◌else◌}
 use Rattle.wac_lexer.specs.Pattern.{Matches, matches}
 use Rattle.wac_lexer.specs.Shapes.{id, package_name, package_path, quoted}
 use Rattle.wac_lexer.specs.Words.{find, fixed_texts, keywords}
@@ -46,6 +46,10 @@ pub record IsLongest (text : List ℕ) (n : ℕ) (token : Token) : Type 0 where
 -- no prefix is a token
 abbrev pub HasNone : List ℕ → Type 0
 HasNone text = (m : ℕ) (token : Token) → m ≤ length text → ¬ (IsToken token (take m text))
+
+-- what is found of a text is its longest prefix that is a token, or that no prefix is
+abbrev pub FindsLongest : List ℕ → Option (ℕ × Token) → Type 0
+FindsLongest text found = MatchOption found (HasNone text) (λ f. IsLongest text f.0 f.1)
 
 -- examples
 word_of_one_case : longest_token (codes "foo-Bar") 7 ≡ Some (5, Ident)

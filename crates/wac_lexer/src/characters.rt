@@ -1,8 +1,8 @@
 // Tests the characters of a source.
-ghost use Rattle.std.specs.Prelude.{◌≡◌, ◌≤◌, true, length, take, drop};
+ghost use Rattle.std.specs.Prelude.{◌≡◌, ◌≤◌, true, length, take};
 ghost use Rattle.std.specs.List.{list_all, prefix_len};
-ghost use Rattle.std.specs.Str.{IsCharBoundary, chars};
-ghost use Rattle.wac_lexer.specs.Characters.{fault_of, is_plain, refused, refused_from};
+ghost use Rattle.std.specs.Str.{IsCharBoundary};
+ghost use Rattle.wac_lexer.specs.Characters.{fault_of, is_plain, refused, refused_behind};
 
 use crate::error::Error;
 use crate::span::SourceSpan;
@@ -87,7 +87,7 @@ fn past_plain(source: &str, place: usize) -> usize
     requires { IsCharBoundary source.now place }
     ensures within { IsCharBoundary source.now result }
     ensures onward { place ≤ result }
-    ensures passes { refused_from result (chars (drop result source.now)) ≡ refused_from place (chars (drop place source.now)) }
+    ensures passes { refused_behind source.now result ≡ refused_behind source.now place }
 {
     let (_, rest) = source.split_at(place);
     place + plain_len(rest.as_bytes())

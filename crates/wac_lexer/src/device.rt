@@ -1,7 +1,7 @@
 //! Devices of bytes: sinks and feeds, and those over any writer and any reader.
 ghost use Rattle.std.specs.Prelude.{◌≡◌, ◌+◌, ◌++◌, ◌≤◌, ◌<◌, ℕ, List, [], Option, true, false, length, take, min, ◌-◌};
-ghost use Rattle.wac_lexer.specs.Device.{PutGives, PutGrows, TakeGives, TakeLeaves};
-ghost use Rattle.wac_lexer.specs.Blocks.{given};
+ghost use Rattle.wac_lexer.specs.Device.{PutGives, PutGrows, PutsInto, TakeLeaves, TakesFrom, TookAll, TookSome};
+ghost use Rattle.wac_lexer.specs.Blocks.{IsBelow, IsEmptied, given, holding, over};
 
 use std::alloc::Global;
 use std::io::{Read, Write};
@@ -23,7 +23,7 @@ pub trait Sink {
     /// Appends bytes from the start of `part`, and returns how many: none only where `part` is empty.
     /// `None` appended nothing.
     fn put(&mut self, part: &[u8]) -> Option<usize>
-        ensures puts { PutGives (bytes self.old) (failures self.old) part.now result (bytes self.new) (failures self.new) }
+        ensures puts { PutsInto bytes failures self.old part.now result self.new }
         ensures same { borrow self.new ≡ borrow self.old };
 }
 
@@ -43,7 +43,7 @@ pub trait Feed {
     /// Puts the next bytes at the start of `part`, and returns how many: none only where `part` is empty, or at the
     /// end. `None` took nothing.
     fn take(&mut self, part: &mut [u8]) -> Option<usize>
-        ensures takes { TakeGives (taken self.old) (failures self.old) part.new result (taken self.new) (failures self.new) }
+        ensures takes { TakesFrom taken failures self.old part.new result self.new }
         ensures leaves { TakeLeaves (left self.old) part.new result (left self.new) };
 }
 
@@ -211,8 +211,8 @@ impl Sink for Bytes {
 ///
 /// It ends at the first call that fails. What the sink took by then is a prefix of the bytes, and not the whole.
 pub fn put_all<S: Sink>(sink: &mut S, part: &[u8]) -> bool
-    ensures taken { result ≡ true → (S.bytes sink.new ≡ S.bytes sink.old ++ part.now) × (S.failures sink.new ≡ S.failures sink.old) }
-    ensures failed { result ≡ false → (n : ℕ) × (n < length part.now) × (S.bytes sink.new ≡ S.bytes sink.old ++ take n part.now) × (S.failures sink.new ≡ S.failures sink.old + 1) }
+    ensures taken { result ≡ true → TookAll S.bytes S.failures sink.old part.now sink.new }
+    ensures failed { result ≡ false → TookSome S.bytes S.failures sink.old part.now sink.new }
     ensures same { S.borrow sink.new ≡ S.borrow sink.old }
 {
     put_until_failure(sink, part) == part.len()
@@ -260,12 +260,12 @@ pub struct Blocks<S: Sink> {
 }
 
 impl<S: Sink> Model for Blocks<S> {
-    ghost use Rattle.std.specs.Prelude.{◌-◌, ◌≤◌, length, take, drop};
-    ghost use Rattle.wac_lexer.specs.Blocks.{Holding};
+    ghost use Rattle.std.specs.Prelude.{◌≤◌, length};
+    ghost use Rattle.wac_lexer.specs.Blocks.{Holding, over, with_block};
 
     ghost Value = { Holding };
 
-    ghost view = { λ b. record { sunk = S.bytes b.sink; held = drop b.start (take b.end b.block); room = 8192 - b.end; failures = S.failures b.sink; before = length (S.bytes b.sink) - length b.tally.moved; borrow = S.borrow b.sink } };
+    ghost view = { λ b. with_block b.block b.start b.end b.tally.moved (over S.bytes S.failures S.borrow b.sink) };
 
     ghost invariant = { λ b. (b.start ≤ b.end) × (b.end ≤ 8192) × (length b.tally.moved ≤ length (S.bytes b.sink)) };
 }
@@ -273,7 +273,7 @@ impl<S: Sink> Model for Blocks<S> {
 impl<S: Sink> Blocks<S> {
     /// Over a sink, with no byte held.
     pub fn new(sink: S) -> Self
-        ensures { result ≡ record { sunk = S.bytes sink; held = []; room = 8192; failures = S.failures sink; before = length (S.bytes sink); borrow = S.borrow sink } }
+        ensures { result ≡ over S.bytes S.failures S.borrow sink }
     {
         Blocks {
             sink,
@@ -287,7 +287,7 @@ impl<S: Sink> Blocks<S> {
     /// Passes on all that is held, and returns whether the sink below took it.
     pub fn flush(&mut self) -> bool
         ensures same { given self.new ≡ given self.old }
-        ensures passed { result ≡ true → (self.new.held ≡ []) × (self.new.room ≡ 8192) × (self.new.failures ≡ self.old.failures) }
+        ensures passed { result ≡ true → IsEmptied self.old self.new }
         ensures failed { result ≡ false → self.new.failures ≡ self.old.failures + 1 }
         ensures full { result ≡ false → self.new.room ≡ self.old.room }
     {
@@ -308,7 +308,7 @@ impl<S: Sink> Blocks<S> {
     /// Holds bytes from the start of `part`, as many as there is room for, and returns how many.
     fn hold(&mut self, part: &[u8]) -> usize
         ensures count { result ≡ min (length part.now) self.old.room }
-        ensures held { self.new ≡ record self.old { held = self.old.held ++ take result part.now; room = self.old.room - result } }
+        ensures held { self.new ≡ holding self.old result part.now }
     {
         let end = self.end;
         let n = part.len().min(BLOCK - end);
@@ -322,7 +322,7 @@ impl<S: Sink> Blocks<S> {
 
     /// The sink below. Bytes that are held are lost.
     pub fn into_sink(self) -> S
-        ensures { (S.bytes result ≡ self.sunk) × (S.failures result ≡ self.failures) × (S.borrow result ≡ self.borrow) × (self.before ≤ length self.sunk) }
+        ensures { IsBelow S.bytes S.failures S.borrow result self }
     {
         let Blocks { sink, .. } = self;
         sink

@@ -1,15 +1,13 @@
 // What may follow a token: laws of the definitions. Each function does nothing: its contract is the law.
-ghost use Rattle.std.specs.Prelude.{◌≡◌, ◌++◌, ◌∷◌, ℕ, List, length, codes, true, Some, Ok};
-ghost use Rattle.wac_lexer.specs.Comments.{gap, is_blank};
-ghost use Rattle.wac_lexer.specs.Follow.{Follows};
-ghost use Rattle.wac_lexer.specs.Items.{first_item};
+ghost use Rattle.std.specs.Prelude.{◌≡◌, ◌++◌, ℕ, List, codes, Some};
+ghost use Rattle.wac_lexer.specs.Follow.{EndsAtBlank, Follows, IsReadBack};
 ghost use Rattle.wac_lexer.specs.Tokens.{token_of};
 ghost use Rattle.wac_lexer.specs.declared.token.Token.{Token as Kind};
 ghost use Rattle.wac_lexer.specs.declared.token.Token.TheVariants.{Ident, Dot};
 
 /// A token before what may follow it is read back: no gap comes first, and no longer prefix is a token.
 pub fn tokens_are_read_back()
-    ensures { (text rest : List ℕ) (token : Kind) → Follows token text rest → (gap (text ++ rest) ≡ 0) × (first_item (text ++ rest) ≡ Some (Ok token, length text)) }
+    ensures { (text rest : List ℕ) (token : Kind) → Follows token text rest → IsReadBack token text rest }
 {}
 
 /// An identifier may follow a dot.
@@ -19,5 +17,5 @@ pub fn identifiers_follow_dots()
 
 /// A space, TAB, CR or LF may follow any token.
 pub fn blanks_follow_tokens()
-    ensures { (text rest : List ℕ) (token : Kind) (b : ℕ) → token_of text ≡ Some token → is_blank b ≡ true → Follows token text (b ∷ rest) }
+    ensures { (text rest : List ℕ) (token : Kind) (b : ℕ) → token_of text ≡ Some token → EndsAtBlank token text b rest }
 {}

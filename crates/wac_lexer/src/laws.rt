@@ -1,16 +1,14 @@
 // Laws of the definitions that the lexer's contracts cite. Each function does nothing: its contract is the law.
-ghost use Rattle.std.specs.Prelude.{◌≡◌, ◌<◌, ◌↔◌, ℕ, IsTrue, List, MatchOption, Result, drop, length, [], true, None, Some};
-ghost use Rattle.std.specs.List.{AllByRecursion};
-ghost use Rattle.std.specs.Str.{IsUtf8, chars};
-ghost use Rattle.wac_lexer.specs.Characters.{IsFirstRefused, fault_of, refused};
+ghost use Rattle.std.specs.Prelude.{◌≡◌, ◌↔◌, ℕ, IsTrue, List, Result, length, [], true, None, Some};
+ghost use Rattle.std.specs.Str.{IsUtf8};
+ghost use Rattle.wac_lexer.specs.Characters.{FindsRefused, refused};
 ghost use Rattle.wac_lexer.specs.Comments.{Inside, behind, gap};
-ghost use Rattle.wac_lexer.specs.Docs.{docs_at};
-ghost use Rattle.wac_lexer.specs.First.{IsFirst};
-ghost use Rattle.wac_lexer.specs.Gap.{Gap, IsLongestGap, docs_among};
+ghost use Rattle.wac_lexer.specs.First.{FindsFirst};
+ghost use Rattle.wac_lexer.specs.Gap.{DocsStandInGap, IsLongestGap};
 ghost use Rattle.wac_lexer.specs.Items.{items, first_item};
 ghost use Rattle.wac_lexer.specs.Order.{InOrder};
 ghost use Rattle.wac_lexer.specs.Pattern.{Pattern, Matches, matches};
-ghost use Rattle.wac_lexer.specs.Tokens.{IsToken, IsLongest, HasNone, token_of, longest_token};
+ghost use Rattle.wac_lexer.specs.Tokens.{FindsLongest, IsToken, token_of, longest_token};
 ghost use Rattle.wac_lexer.specs.declared.token.Token.{Token as Kind};
 ghost use Rattle.wac_lexer.specs.Span.{Span};
 ghost use Rattle.wac_lexer.specs.declared.error.Error.{Error as Fault};
@@ -36,7 +34,7 @@ pub fn gap_is_longest()
 
 /// The docs of a place are those among the blanks and comments of the longest gap there.
 pub fn docs_stand_in_the_gap()
-    ensures { (source : List ℕ) (place : ℕ) (parts : List (List ℕ)) → let text = drop place source in Gap text parts (drop (gap text) text) → docs_at source place ≡ docs_among place parts }
+    ensures { (source : List ℕ) (place : ℕ) (parts : List (List ℕ)) → DocsStandInGap source place parts }
 {}
 
 /// A text is at most one token, and looking it up finds which.
@@ -47,7 +45,7 @@ pub fn tokens_are_decided()
 
 /// The prefix that is found is the longest that is a token.
 pub fn fronts_are_longest()
-    ensures { (text : List ℕ) → MatchOption (longest_token text (length text)) (HasNone text) (λ f. IsLongest text f.0 f.1) }
+    ensures { (text : List ℕ) → FindsLongest text (longest_token text (length text)) }
 {}
 
 /// The items of a source are in order, none overlaps another, and each one's text is the slice at its span.
@@ -57,13 +55,13 @@ pub fn items_stand_in_order()
 
 /// What a text of bytes begins with: an unterminated comment or string, the longest token, or else a character.
 pub fn first_items_are_found()
-    ensures found { (text : List ℕ) (item : Result Kind Fault) (n : ℕ) → AllByRecursion (λ b. b < 256) text → first_item text ≡ Some (item, n) ↔ IsFirst text item n }
+    ensures found { (text : List ℕ) (item : Result Kind Fault) (n : ℕ) → FindsFirst text item n }
     ensures empty { first_item [] ≡ None }
 {}
 
 /// The rejected character is the first of the whole text.
 pub fn refused_characters_are_first()
-    ensures { (text : List ℕ) → MatchOption (refused text) (AllByRecursion (λ c. fault_of c ≡ None) (chars text)) (λ found. IsFirstRefused text found.0 found.1) }
+    ensures { (text : List ℕ) → FindsRefused text (refused text) }
 {}
 
 /// Tokens are equal where they are the same, and so are faults and spans: `==` reads all of both.

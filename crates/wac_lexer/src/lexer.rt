@@ -41,13 +41,13 @@ pub struct Lexer<'a> {
 }
 
 impl<'a> Model for Lexer<'a> {
-    ghost use Rattle.wac_lexer.specs.Reading.{Reading, IsWithin, IsAhead};
+    ghost use Rattle.wac_lexer.specs.Reading.{Reading, reading, Keeps};
 
     ghost Value = { Reading };
 
-    ghost view = { λ l. record { source = l.scanner.source.now; place = l.place; last = l.last; scans = l.scanner.scans } };
+    ghost view = { λ l. reading l.scanner.source.now l.place l.last l.scanner.scans };
 
-    ghost invariant = { λ l. IsWithin l.scanner.source.now l.place l.last × IsAhead l.scanner.source.now l.place l.first l.second l.scanner.scans };
+    ghost invariant = { λ l. Keeps (reading l.scanner.source.now l.place l.last l.scanner.scans) l.first l.second };
 }
 
 impl<'a> Lexer<'a> {
