@@ -1,5 +1,5 @@
 -- Optional parts: what a callback after a token returns, and how a fault in the token's place is reported.
-use Rattle.std.specs.Prelude.{◌≡◌, Option, Some, None, Result, Ok, Err, IfOk, IfSome, IsErrAnd}
+use Rattle.std.specs.Prelude.{◌≡◌, true, false, Option, Some, None, Result, Ok, Err, IfOk, IfSome, IsErrAnd}
 use Rattle.wac_lexer.specs.Item.{handed, behind_first}
 use Rattle.wac_lexer.specs.Reading.{Reading, left, Nexts}
 use Rattle.wac_lexer.specs.declared.token.Token.{Token}
