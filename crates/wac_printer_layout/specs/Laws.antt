@@ -25,7 +25,8 @@ WriteAccepted rest space fresh ps = AreBlanks space → JoinsBefore rest space f
 
 -- the items of what pieces that join write are the token pieces at their places
 abbrev pub ReadAsPlaced : List ℕ → Bool → List Piece → Type 0
-ReadAsPlaced space fresh ps = AreBlanks space → Joins space fresh ps → items (text space fresh ps) ≡ placed 0 space fresh ps
+ReadAsPlaced space fresh ps =
+    AreBlanks space → Joins space fresh ps → items (text space fresh ps) ≡ placed 0 space fresh ps
 
 -- the items of pieces say what the pieces are meant to say
 abbrev pub PlacedSay : ℕ → List ℕ → Bool → List Piece → Type 0
@@ -117,7 +118,8 @@ RereadIsPlain source text x again =
 -- trees with the same bare tree and the same lines of docs are printed as the same text
 abbrev pub LinesGiveText : List ℕ → List ℕ → List ℕ → Document → Document → Type 0
 LinesGiveText space source other x y =
-    bare_tree source x ≡ bare_tree other y → tree_lines x ≡ tree_lines y → printed space source x ≡ printed space other y
+    bare_tree source x ≡ bare_tree other y → tree_lines x ≡ tree_lines y
+    → printed space source x ≡ printed space other y
 
 -- a tree of a text is another one reread where it has the same bare tree, and its docs are the other's lines
 abbrev pub RereadByLines : List ℕ → List ℕ → Document → Document → Type 0
