@@ -15,3 +15,4 @@ pub mod Settled
 pub mod Reread
 pub mod Texts
 pub mod TreeLines
+pub mod Laws

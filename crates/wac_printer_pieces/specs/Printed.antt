@@ -28,6 +28,29 @@ pub record Printer : Type 0 where
   -- a call has reported that the writer failed
   pub failed : Bool
 
+-- the printer into a sink, of which the functions tell what it was given, its failed calls, and which borrow it is
+abbrev pub printer : {S : Type 0} → (S → List ℕ) → (S → ℕ) → (S → ℕ) → S → List ℕ → List ℕ → ℕ → Bool → Bool → Printer
+printer bytes failures borrow sink source space depth fresh failed =
+    record {
+      bytes = bytes sink;
+      failures = failures sink;
+      borrow = borrow sink;
+      source = source;
+      space = space;
+      depth = depth;
+      fresh = fresh;
+      failed = failed;
+    }
+
+-- a new printer: at depth 0, with nothing on the line yet, and nothing has failed
+abbrev pub new_printer : {S : Type 0} → (S → List ℕ) → (S → ℕ) → (S → ℕ) → S → List ℕ → List ℕ → Printer
+new_printer bytes failures borrow sink source space = printer bytes failures borrow sink source space 0 true false
+
+-- the sink is the one that the printer wrote into: it was given the same, as many calls failed, and it is that borrow
+abbrev pub IsSinkOf : {S : Type 0} → (S → List ℕ) → (S → ℕ) → (S → ℕ) → S → Printer → Type 0
+IsSinkOf bytes failures borrow sink p =
+    (bytes sink ≡ p.bytes) × (failures sink ≡ p.failures) × (borrow sink ≡ p.borrow)
+
 -- what is written once for each depth: four spaces unless another text is given
 abbrev pub space_of : Option (Bor (List ℕ)) → List ℕ
 space_of None = codes "    "

@@ -1,9 +1,9 @@
 //! What writes pieces: how it is made, and what it writes with.
-ghost use Rattle.std.specs.Prelude.{◌≡◌, ◌≤◌, ◌+◌, ℕ, List, [], ◌∷◌, ◌++◌, true, false, Option, Some, None, IfSome, unwrap_or, codes, length, take, drop};
+ghost use Rattle.std.specs.Prelude.{◌≡◌, ◌≤◌, ◌+◌, ℕ, List, [], ◌∷◌, ◌++◌, Option, Some, None, IfSome, unwrap_or, codes, length, take, drop};
 ghost use Rattle.std.specs.List.{list_all};
 ghost use Rattle.wac_lexer.specs.Reading.{slice, Slices};
 ghost use Rattle.wac_printer_layout.specs.Printed.{Piece, token, blank, line, fresh_after, times, deeper};
-ghost use Rattle.wac_printer_pieces.specs.Printed.{Printer, Prints, after, is_space, spaces, space_of};
+ghost use Rattle.wac_printer_pieces.specs.Printed.{IsSinkOf, Printer, Prints, is_space, new_printer, printer, spaces, space_of};
 
 use crate::error::{PrintError, PrintResult};
 use std::marker::Model;
@@ -25,7 +25,7 @@ pub struct Pieces<'a, S: Sink> {
 impl<'a, S: Sink> Model for Pieces<'a, S> {
     ghost Value = { Printer };
 
-    ghost view = { λ p. record { bytes = S.bytes p.sink; failures = S.failures p.sink; borrow = S.borrow p.sink; source = p.source.now; space = p.space.now; depth = p.depth; fresh = p.fresh; failed = p.failed } };
+    ghost view = { λ p. printer S.bytes S.failures S.borrow p.sink p.source.now p.space.now p.depth p.fresh p.failed };
 
     ghost invariant = { λ p. Unit {0} };
 }
@@ -79,7 +79,7 @@ impl<'a, S: Sink> Pieces<'a, S> {
     ///
     /// `space` is written once for each depth where a line begins: four spaces where it is `None`.
     pub fn new(writer: S, source: &'a str, space: Option<&'a str>) -> Self
-        ensures { result ≡ record { bytes = S.bytes writer; failures = S.failures writer; borrow = S.borrow writer; source = source.entry.now; space = space_of space.entry; depth = 0; fresh = true; failed = false } }
+        ensures { result ≡ new_printer S.bytes S.failures S.borrow writer source.entry.now (space_of space.entry) }
     {
         let space = match space {
             Some(space) => space,
@@ -97,7 +97,7 @@ impl<'a, S: Sink> Pieces<'a, S> {
 
     /// What was written into.
     pub fn into_writer(self) -> S
-        ensures { (S.bytes result ≡ self.entry.bytes) × (S.failures result ≡ self.entry.failures) × (S.borrow result ≡ self.entry.borrow) }
+        ensures { IsSinkOf S.bytes S.failures S.borrow result self.entry }
     {
         self.sink
     }
