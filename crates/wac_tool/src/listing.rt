@@ -1,8 +1,8 @@
 //! Listing the items of a source.
-ghost use Rattle.std.specs.Prelude.{◌≡◌, ◌≤◌, ◌<◌, ◌+◌, ◌++◌, ◌∷◌, [], true, false, length, OnOk, IsUtf8, codes, decimal, string_bytes};
+ghost use Rattle.std.specs.Prelude.{◌≡◌, ◌≤◌, ◌<◌, ◌+◌, ◌++◌, ◌∷◌, [], true, false, length, OnOk, IsUtf8, decimal, string_bytes};
 ghost use Rattle.wac_ast_base.specs.declared.error.Error.TheVariants as errors;
-ghost use Rattle.wac_tool.specs.Front.{Began};
-ghost use Rattle.wac_tool.specs.Running.{Answers, IsRefusal, input_failures, output_failures, item_line};
+ghost use Rattle.wac_tool.specs.Front.{AreJoined, Began};
+ghost use Rattle.wac_tool.specs.Running.{Answers, IsRefusal, input_failures, output_failures, item_line, place_text};
 ghost use Rattle.wac_tool.specs.declared.command.Command.TheVariants.{Tokens};
 
 use crate::error::RunError;
@@ -47,7 +47,7 @@ pub(crate) fn write_items<S: Sink>(
 /// Puts the lines that are held into a sink, where they are many, and returns whether it took them.
 #[inline(always)]
 fn put_part<S: Sink>(writer: &mut S, lines: &mut String) -> bool
-    ensures put { result ≡ true → S.bytes writer.new ++ string_bytes lines.new ≡ S.bytes writer.old ++ string_bytes lines.old }
+    ensures put { result ≡ true → AreJoined S.bytes writer.old lines.old writer.new lines.new }
     ensures grows { length (S.bytes writer.old) ≤ length (S.bytes writer.new) }
     ensures works { result ≡ true → S.failures writer.new ≡ S.failures writer.old }
     ensures began { result ≡ false → Began (S.bytes writer.old) (S.bytes writer.new) (string_bytes lines.old) }
@@ -91,7 +91,7 @@ fn push_line(
 /// Appends the place of an item: `OFFSET+LEN` and a blank.
 #[inline(always)]
 fn push_place(lines: &mut String, span: SourceSpan) -> Result<(), AllocError>
-    ensures { OnOk result (string_bytes lines.new ≡ string_bytes lines.old ++ (decimal span.offset ++ (codes "+" ++ (decimal span.len ++ codes " ")))) }
+    ensures { OnOk result (string_bytes lines.new ≡ string_bytes lines.old ++ place_text span) }
 {
     let mut number = Buffer::new();
     lines.push_str(number.format(span.offset()))?;

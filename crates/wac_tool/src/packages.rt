@@ -2,10 +2,8 @@
 ghost use Rattle.std.specs.Prelude.{◌≡◌, ◌+◌, ◌++◌, IfOk, IfErr, IsUtf8, OnOk, string_bytes};
 ghost use Rattle.wac_ast.specs.Statements.{document_of};
 ghost use Rattle.wac_graph.specs.Package.{key_of};
-ghost use Rattle.wac_resolution_rules.specs.Mentions.{mentions};
-ghost use Rattle.wac_resolution_mentions.specs.FirstMentions.{first_mentions};
 ghost use Rattle.wac_resolution_mentions.specs.Noted.{mentions_in};
-ghost use Rattle.wac_tool.specs.Running.{Answers, Rejects, Writes, input_failures, output_failures, package_line, package_lines};
+ghost use Rattle.wac_tool.specs.Running.{Answers, Rejects, Writes, input_failures, output_failures, mentioned_lines, package_line, package_lines};
 ghost use Rattle.wac_tool.specs.declared.command.Command.TheVariants as commands;
 
 use crate::error::RunError;
@@ -54,7 +52,7 @@ fn lines_of(alloc: Global, source: &str) -> Result<String, RunError>
 
 /// A line for each package that a document mentions.
 fn mentioned(alloc: Global, page: Page<'_, '_>) -> Result<String, AllocError>
-    ensures { IfOk result (λ lines. string_bytes lines ≡ package_lines (first_mentions (mentions (document_of page.entry)))) }
+    ensures { IfOk result (λ lines. string_bytes lines ≡ mentioned_lines (document_of page.entry)) }
 {
     let Page { document } = page;
     let mentioned = packages(alloc, document)?;
