@@ -8,7 +8,7 @@ pub use Rattle.wac_ast_base.proofs.Loops.{SoFar, fails_bind, postfixes_star, sta
 pub use Rattle.wac_ast_base.specs.Lists.{Reads, list_of}
 pub use Rattle.wac_ast_base.specs.Lookahead.{looked, told_of, tried}
 pub use Rattle.wac_ast_grammar.proofs.Fixed.{read_is, takes_some}
-pub use Rattle.wac_ast_grammar.specs.Grammar.{Parts, access_expr, argument, argument_name, arguments, build, expr, identifier, last_span, named_access_expr, named_argument, nested_expr, new_expr, package_name, postfix_expr, postfix_span, postfixes, primary_expr, primary_span, rule, string, string_of, list_items}
+pub use Rattle.wac_ast_grammar.specs.Grammar.{Parts, access_expr, argument, argument_name, arguments, build, expr, identifier, last_span, list_items, named_access_expr, named_argument, nested_expr, new_expr, package_name, postfix_expr, postfix_span, postfixes, primary_expr, primary_span, rule, string, string_of}
 pub use Rattle.wac_ast_grammar.specs.Reading.{Stop, at_one_of, begins, can, mapped, other, pair_with, read, read_token, refuse, told}
 pub use Rattle.wac_ast_grammar.specs.Tree.{Arguments, Expr, Ident, InstantiationArgument, InstantiationArgumentName, NamedInstantiationArgument, PostfixExpr, PrimaryExpr, arguments_from}
 pub use Rattle.wac_lexer.specs.Item.{Item, behind_first}

@@ -98,7 +98,7 @@ pub data Sym : Type 0 where
   string : Sym
   package_name : Sym
   package_path : Sym
-  -- a list from the place of an item on, and from behind an item on, with the token that closes it
+  -- of a list, up to the token that closes it: from the place of an item on, and from behind an item on
   list_items : CommaList → Sym
   more_items : CommaList → Sym
 
@@ -251,7 +251,7 @@ rule (more_items l) = more (close_of l) (item_of l) (either false (token (close_
 abbrev pub Listed : Type 0 → Type 0
 Listed A = List A × Item
 
--- what the tree of each symbol is that is no list between commas
+-- what each symbol's tree is, lists between commas aside
 abbrev pub OwnTree : Sym → Type 0
 OwnTree document = Document
 OwnTree directive = PackageDirective
@@ -512,7 +512,7 @@ build identifier x = record { string = without_percent x.text; span = x.span }
 build string x = string_of x
 build package_name x = record { string = x.text; name = unversioned x.text; version = version_of x.text; span = x.span }
 build package_path x = record { span = x.span; string = x.text; name = path_name x.text; segments = path_segments x.text; version = version_of x.text }
--- (each list by itself, as its items' trees are known then)
+-- (`arguments` by itself makes each list a case, in which the trees of its items are known)
 build (list_items arguments) p = listed p
 build (list_items _) p = listed p
 build (more_items l) p = listed_more p

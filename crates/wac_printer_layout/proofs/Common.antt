@@ -13,7 +13,7 @@ pub use Rattle.std.specs.Str.{IsAscii, IsCharBoundary, IsUtf8, bytes_eq, chars, 
 pub use Rattle.std.specs.Str.Lines.{lines, lines_of_parts, strip_carriage_return}
 pub use Rattle.wac_ast_grammar.proofs.Completed.{by_rule}
 pub use Rattle.wac_ast_grammar.proofs.Walked.{Gives, agree, document_agreeing, document_any_spans, document_asked, document_composed, document_implied}
-pub use Rattle.wac_ast_grammar.specs.Grammar.{Derives, DerivesIn, access_expr, argument, arguments, borrow_type, build, cases, constructor, directive, docs_of, document, enum_case, enum_cases, enum_decl, export_options, export_statement, expr, extern_name, extern_type, field, fields, flag, flags, flags_decl, future_type, import_statement, import_type, include_item, include_items, inline_interface, interface_decl, interface_export, interface_item, interface_items, item_type_decl, let_statement, list_type, method, methods, named_access_expr, named_type, nested_expr, new_expr, option_type, payload, postfix_expr, postfixes, primary_expr, record_decl, resource_decl, resource_method, result_part, result_type, rule, statement, statements, stream_type, tuple_type, ty, type_alias, type_alias_kind, type_decl, type_statement, types, use_item, use_items, use_path, use_statement, variant_case, variant_decl, world_decl, world_export, world_import, world_include, world_item, world_item_path, world_items, world_ref, list_items, more_items}
+pub use Rattle.wac_ast_grammar.specs.Grammar.{Derives, DerivesIn, access_expr, argument, arguments, borrow_type, build, cases, constructor, directive, docs_of, document, enum_case, enum_cases, enum_decl, export_options, export_statement, expr, extern_name, extern_type, field, fields, flag, flags, flags_decl, future_type, import_statement, import_type, include_item, include_items, inline_interface, interface_decl, interface_export, interface_item, interface_items, item_type_decl, let_statement, list_items, list_type, method, methods, more_items, named_access_expr, named_type, nested_expr, new_expr, option_type, payload, postfix_expr, postfixes, primary_expr, record_decl, resource_decl, resource_method, result_part, result_type, rule, statement, statements, stream_type, tuple_type, ty, type_alias, type_alias_kind, type_decl, type_statement, types, use_item, use_items, use_path, use_statement, variant_case, variant_decl, world_decl, world_export, world_import, world_include, world_item, world_item_path, world_items, world_ref}
 pub use Rattle.wac_ast_grammar.specs.Leaves.{Change, IfThere, Leaf, asked_after, changed, docs_leaf, leaves, of_leaves, of_option, unchanged}
 pub use Rattle.wac_ast_grammar.specs.TextTree.{IsTreeOf}
 pub use Rattle.wac_ast_grammar.specs.Tokens.{is_token, valid}
