@@ -5,13 +5,14 @@ use Rattle.wac_lexer.specs.Item.{Item, handed}
 use Rattle.wac_lexer.specs.Reading.{Reading, left, shown}
 use Rattle.wac_lexer.specs.declared.token.Token.{Token}
 use Rattle.wac_lexer.specs.declared.token.Token.TheVariants as tokens
+use Rattle.wac_lexer.specs.declared.error.Error.{Error as Fault}
 use Rattle.wac_lexer.specs.declared.error.Error.TheVariants as faults
 use Rattle.wac_ast_base.specs.declared.error.Error.{Error}
 use Rattle.wac_ast_grammar.specs.Version.{version_text}
 use Rattle.wac_ast_grammar.specs.Grammar.{Body, variant_body, record_body, flags_body, enum_body}
 use Rattle.wac_ast_grammar.specs.Reading.{Stop, Tried, Why, other, empty_body, version, before, read_token, not_fault}
-use Rattle.wac_ast_grammar.specs.Tokens.{at}
-use Rattle.wac_ast_base.specs.Error.{Told, told_by, expected, empty_type, invalid_version, no_memory}
+use Rattle.wac_ast_grammar.specs.Tokens.{at, is_token}
+use Rattle.wac_ast_base.specs.Error.{Told, told_by, expected, expected_one, empty_type, invalid_version, no_memory}
 use Rattle.wac_ast_base.specs.Lookahead.{refusal}
 
 -- ---- the end of the input
@@ -92,6 +93,34 @@ told_in end (Err stop) = Some (told end stop)
 abbrev pub Fails : {A : Type 0} → Error → End → Result A Stop → Type 0
 Fails error end r = (told_by error ≡ no_memory) ⊎ (told_in end r ≡ Some (told_by error))
 
+-- The error is made of one that reports the stop, unless memory ran out.
+abbrev pub FailsAs : {A E : Type 0} → (Error → E → Type 0) → End → Result A Stop → E → Type 0
+FailsAs made end r x = (error : Error) × made error x × Fails error end r
+
+-- The error reports where taking this token stops, unless memory ran out.
+abbrev pub FailsToTake : Token → Reading → Error → Type 0
+FailsToTake token old error = Fails error (end_of_input old) (read_token [] token (left old))
+
+-- Another token than this one, or a fault or the end, is next, and the error reports it.
+abbrev pub RefusesNext : Token → Reading → Error → Type 0
+RefusesNext token old error =
+    (at token (left old) ≡ false)
+    × (told_by error ≡ refusal (handed (left old)) (shown old.source (empty_end old.source)) (expected_one token))
+
+-- The item that was found is not this token, and the error reports it.
+abbrev pub RefusesFound : Token → Result Token Fault × Span → Error → Type 0
+RefusesFound token found error =
+    (is_token token found.0 ≡ false) × (told_by error ≡ refusal (Some found) found.1 (expected_one token))
+
+-- A closing brace is next, and the error reports there that a type of this name has no such part.
+abbrev pub RefusesEmpty : List ℕ → List ℕ → Reading → Error → Type 0
+RefusesEmpty ty kind now error =
+    (at tokens.CloseBrace (left now) ≡ true) × (told_by error ≡ empty_type ty kind (first_span (left now)))
+
+-- Memory ran out, or no version is read, and the error reports that.
+abbrev pub RefusesVersion : Bool → Told → Error → Type 0
+RefusesVersion reads told error = (told_by error ≡ no_memory) ⊎ ((reads ≡ false) × (told_by error ≡ told))
+
 -- The result, seen by view, and the items then left are what reading gives.
 abbrev pub Gives : {X Y : Type 0} → (X → Y) → Result X Error → Reading → Reading → Result (Y × List Item) Stop → Type 0
 Gives view (Ok x) old new r = (r ≡ Ok (view x, left new)) × (end_of_input new ≡ end_of_input old)
@@ -113,7 +142,7 @@ first_item (x ∷ xs) = x
 -- A token was taken, and its span is the result.
 abbrev pub Takes : Token → Result Span Error → Reading → Reading → Type 0
 Takes token (Ok s) old new = (read_token [] token (left old) ≡ Ok (first_item (left old), left new)) × (s ≡ (first_item (left old)).span) × (end_of_input new ≡ end_of_input old)
-Takes token (Err error) old new = Fails error (end_of_input old) (read_token [] token (left old))
+Takes token (Err error) old new = FailsToTake token old error
 
 abbrev pub has_more : List Item → Bool
 has_more [] = false

@@ -8,6 +8,7 @@ use Rattle.wac_lexer.specs.declared.token.Token.TheVariants as t
 use Rattle.wac_lexer.specs.declared.error.Error.{Error as Fault}
 use Rattle.wac_ast_grammar.specs.Tokens.{is_token, valid}
 use Rattle.wac_ast_grammar.specs.Grammar.{Sym, argument, Body, TreeOf, Derives}
+use Rattle.wac_ast_grammar.specs.Reading.{read}
 use Rattle.wac_ast_grammar.specs.Viable.{Viable}
 use Rattle.wac_ast_grammar.specs.Bodies.{Opens}
 use Rattle.wac_ast_grammar.specs.Arguments.{IsAlone, EndsArgued}
@@ -15,7 +16,7 @@ use Rattle.wac_ast_grammar.specs.Stopped.{Fault as IsFault, CanStand, CanFollowC
 use Rattle.wac_ast_base.specs.declared.error.Error.{Error}
 use Rattle.wac_ast_base.specs.declared.error.Error.TheVariants.{Memory}
 use Rattle.wac_ast_base.specs.Error.{Told, told_by, places, faulty, expected_one, expected_either, expected_many, empty_type, invalid_version, no_memory}
-use Rattle.wac_ast_base.specs.Answer.{End, end_of_input, empty_end, body_name, part_name, version_told}
+use Rattle.wac_ast_base.specs.Answer.{End, Gives, end_of_input, empty_end, body_name, part_name, version_told}
 
 -- ---- the first fault of a part's items
 
@@ -99,3 +100,8 @@ pub record Parsed (s : Sym) (old new : List Item) (tree : TreeOf s) : Type 0 whe
 abbrev pub Answers : {X : Type 0} → (s : Sym) → (X → TreeOf s) → Result X Error → Reading → Reading → Type 0
 Answers s view (Ok x) old new = Parsed s (left old) (left new) (view x)
 Answers s view (Err error) old new = (error ≡ Memory alloc_error) ⊎ TellsRefusal s (end_of_input old) (left old) (told_by error)
+
+-- Whatever reading gives of the part, as this sees it, is a tree of it or reports its first fault.
+abbrev pub StopsAtFirstFault : {X : Type 0} → (s : Sym) → (X → TreeOf s) → Type 0
+StopsAtFirstFault {X} s view = (result : Result X Error) (old new : Reading)
+    → Gives view result old new (read s (left old)) → Answers s view result old new

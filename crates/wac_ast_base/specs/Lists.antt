@@ -1,5 +1,6 @@
 -- Lists up to a closing token.
-use Rattle.std.specs.Prelude.{◌≡◌, ℕ, List, [], ◌∷◌, map, take, length, Option, Some, None, Result, Ok, Err, Bool, true, false, cond}
+use Rattle.std.specs.Prelude.{◌≡◌, ℕ, List, [], ◌∷◌, map, take, length, Option, Some, None, Result, Ok, Err, Bool, true, false, cond, Vec}
+use Rattle.std.proofs.Common.{Global}
 use Rattle.wac_lexer.specs.Span.{Span}
 use Rattle.wac_lexer.specs.Item.{Item, handed}
 use Rattle.wac_lexer.specs.Reading.{Reading, left, shown}
@@ -7,14 +8,18 @@ use Rattle.wac_lexer.specs.declared.token.Token.{Token}
 use Rattle.wac_lexer.specs.declared.token.Token.TheVariants as t
 use Rattle.wac_ast_base.specs.declared.error.Error.{Error}
 use Rattle.wac_ast_grammar.specs.Tokens.{at}
-use Rattle.wac_ast_grammar.specs.Grammar.{Sym, TreeOf, Listed, arguments, argument, cases, variant_case, fields, field, flags, flag, enum_cases, enum_case, params, named_type, types, ty, use_items, use_item, include_items, include_item, methods, resource_method, interface_items, interface_item, world_items, world_item, list_items, more_items}
-use Rattle.wac_ast_grammar.specs.Reading.{Stop, can, follows, refuse, mapped, two, read_token, read_sym, read}
+use Rattle.wac_ast_grammar.specs.Grammar.{Sym, TreeOf, Listed, arguments, argument, cases, variant_case, fields, field, flags, flag, enum_cases, enum_case, params, named_type, types, ty, use_items, use_item, include_items, include_item, sym, methods, resource_method, interface_items, interface_item, world_items, world_item, list_items, more_items}
+use Rattle.wac_ast_grammar.specs.Reading.{Stop, can, follows, begins, refuse, mapped, two, read_token, read_sym, read, read_in}
 use Rattle.wac_ast_base.specs.Error.{Told, expected}
 use Rattle.wac_ast_base.specs.Lookahead.{refusal}
-use Rattle.wac_ast_base.specs.Answer.{end_of_input, Fails}
+use Rattle.wac_ast_base.specs.Answer.{end_of_input, Fails, FailsAs, Gives}
 
 abbrev pub Reads : Type 0 → Type 0
 Reads A = Result (A × List Item) Stop
+
+-- what each value of a vector is seen as, in order
+abbrev pub each : {X A : Type 0} → (X → A) → Vec X Global → List A
+each view v = map view v.items
 
 -- the closing token, or an item and what follows it
 abbrev pub list_by : {A : Type 0} → Token → List Token → (List Item → Reads A) → (List Item → Reads (Listed A)) → List Item → Reads (Listed A)
@@ -42,11 +47,21 @@ unclosed (Err stop) = Err stop
 -- A list was taken up to its closing token, whose span is returned beside its items; an error is made into another.
 abbrev pub TakesListBy : {X A E : Type 0} → (Error → E → Type 0) → (X → List A) → Result (X × Span) E → Reading → Reading → Reads (Listed A) → Type 0
 TakesListBy made view (Ok x) old new r = (last : Item) × (r ≡ Ok ((view x.0, last), left new)) × (x.1 ≡ last.span) × (end_of_input new ≡ end_of_input old)
-TakesListBy made view (Err x) old new r = (error : Error) × made error x × Fails error (end_of_input old) r
+TakesListBy made view (Err x) old new r = FailsAs made (end_of_input old) r x
 
 abbrev pub GivesBy : {X Y E : Type 0} → (Error → E → Type 0) → (X → Y) → Result X E → Reading → Reading → Reads Y → Type 0
 GivesBy made view (Ok x) old new r = (r ≡ Ok (view x, left new)) × (end_of_input new ≡ end_of_input old)
-GivesBy made view (Err x) old new r = (error : Error) × made error x × Fails error (end_of_input old) r
+GivesBy made view (Err x) old new r = FailsAs made (end_of_input old) r x
+
+-- The items of a list are given, as this reads it, where its closing token is still to be taken.
+abbrev pub GivesItems : {X A E : Type 0} → (Error → E → Type 0) → (X → A) → (List Item → Reads (Listed A))
+    → Result (Vec X Global) E → Reading → Reading → Type 0
+GivesItems made view list result old new = GivesBy made (each view) result old new (unclosed (list (left old)))
+
+-- A list was taken, as this reads it, up to its closing token, whose span is returned beside its items.
+abbrev pub TakesItems : {X A E : Type 0} → (Error → E → Type 0) → (X → A) → (List Item → Reads (Listed A))
+    → Result (Vec X Global × Span) E → Reading → Reading → Type 0
+TakesItems made view list result old new = TakesListBy made (each view) result old new (list (left old))
 
 -- After an item the list continues at the new place, or the error says why it does not.
 abbrev pub GoesOn : {X A : Type 0} → (List Item → Reads (Listed A)) → (List Item → Reads (Listed A)) → Result X Error → Reading → Reading → Type 0
@@ -93,6 +108,23 @@ more_of ty = read (more_items types)
 more_of use_item = read (more_items use_items)
 more_of include_item = read (more_items include_items)
 more_of _ = λ xs. refuse xs []
+
+-- Each list of items that begin with these tokens, which is closed by that one, goes on after an item.
+abbrev pub ListsGoOn : {X : Type 0} → List Token → Token → Result X Error → Reading → Reading → Type 0
+ListsGoOn firsts close result old new =
+    (s : Sym) → closes s ≡ Some close → firsts ≡ begins s → GoesOn (list_of s) (more_of s) result old new
+
+-- an item where its list may be closed by this token instead
+abbrev pub read_item : (s : Sym) → Token → List Item → Reads (TreeOf s)
+read_item s close xs = read_in read (sym s) (can close ∷ []) xs
+
+-- The item is given that stands where its list may be closed by this token instead.
+abbrev pub GivesItem : {X : Type 0} → (s : Sym) → Token → (X → TreeOf s) → Result X Error → Reading → Reading → Type 0
+GivesItem s close view result old new = Gives view result old new (read_item s close (left old))
+
+-- the items of the comma list, where its closing token is still to be taken
+abbrev pub items_of : (s : Sym) → List Item → Reads (List (TreeOf s))
+items_of s xs = unclosed (list_of s xs)
 
 -- ---- the bodies of the grammar, which are lists without commas in braces, by their items
 

@@ -5,7 +5,7 @@ use Rattle.wac_lexer.specs.Item.{Handed, handed}
 use Rattle.wac_lexer.specs.Reading.{Reading, left, shown}
 use Rattle.wac_lexer.specs.declared.token.Token.{Token}
 use Rattle.wac_ast_grammar.specs.Tokens.{is_token}
-use Rattle.wac_ast_base.specs.Error.{Told, faulty, expected}
+use Rattle.wac_ast_base.specs.Error.{Told, faulty, expected, places}
 
 -- what is next, the span that is reported at the end of the input, the first ten tokens that were tried, and how many were
 pub record Looked : Type 0 where
@@ -37,6 +37,10 @@ kept_in [] = []
 kept_in (None ∷ others) = kept_in others
 kept_in (Some token ∷ others) = token ∷ kept_in others
 
+-- The places are filled from the front.
+abbrev pub InFront : List (Option Token) → Type 0
+InFront attempts = attempts ≡ places 10 (kept_in attempts)
+
 -- what is reported at an item: its own fault, or that another token, or the end, was found
 abbrev pub refusal : Handed → Span → (Option Token → Span → Told) → Told
 refusal None end other = other None end
@@ -62,3 +66,7 @@ abbrev pub fault_at : Handed → Option Told
 fault_at None = None
 fault_at (Some (Ok token, span)) = None
 fault_at (Some (Err fault, span)) = Some (faulty fault span)
+
+-- what is reported of a fault that is next
+abbrev pub next_fault : Reading → Option Told
+next_fault l = fault_at (handed (left l))

@@ -1,15 +1,19 @@
 -- The trees of names, paths and docs, as values have them.
-use Rattle.std.specs.Prelude.{[], Result, Ok, Err, ◌≡◌}
+use Rattle.std.specs.Prelude.{ℕ, List, [], Result, Ok, Err, length, ◌≡◌, ◌<◌, ◌≤◌, ◌^◌}
+use Rattle.std.specs.List.{AllByRecursion}
 use Rattle.std.specs.Option.{option_map}
 use Rattle.semver.specs.Identifiers.{parts_of}
 use Rattle.wac_lexer.specs.Item.{Doc}
-use Rattle.wac_lexer.specs.Reading.{Reading, left}
+use Rattle.wac_lexer.specs.Reading.{Reading, left, slice}
+use Rattle.wac_lexer.specs.Span.{end_of}
 use Rattle.wac_lexer.specs.declared.token.Token.{Token}
 use Rattle.wac_ast_base.specs.declared.error.Error.{Error}
 use Rattle.wac_ast_base.specs.declared.version.Versioned.{Versioned}
 use Rattle.wac_ast_grammar.specs.Version.{unversioned, version_of}
 use Rattle.wac_ast_grammar.specs.Reading.{read_token}
-use Rattle.wac_ast_base.specs.Answer.{first_item, end_of_input, Fails}
+use Rattle.wac_ast_base.specs.Answer.{first_item, end_of_input, FailsToTake}
+use Rattle.wac_ast_grammar.specs.Spelled.{spelled}
+use Rattle.wac_ast_grammar.specs.Segments.{package_name_span, segment_spans}
 use Rattle.wac_ast_grammar.specs.Tree as tree
 use Rattle.wac_ast_grammar.specs.Tree.{ExternName}
 use Rattle.wac_ast_base.specs.declared.names.Ident.{Ident as CodeIdent}
@@ -48,4 +52,10 @@ TakesPackage token (Ok x) old new =
     × (x.name.now ≡ unversioned (first_item (left old)).text)
     × (option_map parts_of x.version ≡ version_of (first_item (left old)).text)
     × (end_of_input new ≡ end_of_input old)
-TakesPackage token (Err error) old new = Fails error (end_of_input old) (read_token [] token (left old))
+TakesPackage token (Err error) old new = FailsToTake token old error
+
+-- Of a path of the source, the package's name and each segment is what the source has at its span.
+abbrev pub SegmentsStand : List ℕ → tree.PackagePath → Type 0
+SegmentsStand source path = (spelled source).path path → end_of path.span ≤ length source → length source < 2 ^ 64
+    → (path.name ≡ slice source (package_name_span path))
+    × AllByRecursion (λ s. s.0 ≡ slice source s.1) (segment_spans path)

@@ -1,14 +1,13 @@
 //! Lists up to a closing token.
 
-ghost use Rattle.std.specs.Prelude.{◌≡◌, ◌≤◌, ◌<◌, ◌^◌, [], ◌∷◌, true, false, length, map, Some, IfOk, OnOk};
+ghost use Rattle.std.specs.Prelude.{◌≡◌, ◌≤◌, ◌<◌, ◌^◌, ◌∷◌, true, false, length, Some, IfOk, OnOk};
 ghost use Rattle.wac_lexer.specs.Span.{end_of};
 ghost use Rattle.wac_lexer.specs.Reading.{left};
 ghost use Rattle.wac_ast_grammar.specs.Tokens.{at};
-ghost use Rattle.wac_ast_grammar.specs.Grammar.{Sym, sym};
-ghost use Rattle.wac_ast_grammar.specs.Reading.{at_one_of, begins, can, read, read_in};
+ghost use Rattle.wac_ast_grammar.specs.Reading.{at_one_of, begins};
 ghost use Rattle.wac_ast_base.specs.Error.{told_by};
 ghost use Rattle.wac_ast_base.specs.Lookahead.{looked, tried, told_of};
-ghost use Rattle.wac_ast_base.specs.Lists.{TakesListBy, GivesBy, GoesOn, unclosed, list_of, more_of, closes, body_of, repeats};
+ghost use Rattle.wac_ast_base.specs.Lists.{TakesItems, GivesItems, GivesBy, ListsGoOn, read_item, list_of, closes, body_of, repeats};
 ghost use Rattle.wac_lexer.specs.declared.token.Token.TheVariants as tokens;
 
 use crate::error::{Error, ParseResult};
@@ -45,7 +44,7 @@ fn parse_item<'a, T: Parse<'a> + Peek + Drop, E: From<Error>>(
 ) -> Result<T, E>
     requires open { at close (left lexer.old) ≡ false }
     requires begins { T.firsts ≡ begins T.symbol }
-    ensures gives { GivesBy E.from_gives T.tree result lexer.old lexer.new (read_in read (sym T.symbol) (can close ∷ []) (left lexer.old)) }
+    ensures gives { GivesBy E.from_gives T.tree result lexer.old lexer.new (read_item T.symbol close (left lexer.old)) }
     ensures source { lexer.new.source ≡ lexer.old.source }
     ensures moves { lexer.old.place ≤ lexer.new.place }
 {
@@ -58,7 +57,7 @@ fn parse_item<'a, T: Parse<'a> + Peek + Drop, E: From<Error>>(
 /// What follows an item of a comma list: the closing token, which stays, or a comma.
 pub fn take_comma<T: Peek>(lexer: &mut Lexer, close: Token) -> ParseResult<()>
     // Each list of such items that ends with this token continues this way.
-    ensures gives { (s : Sym) → closes s ≡ Some close → T.firsts ≡ begins s → GoesOn (list_of s) (more_of s) result lexer.old lexer.new }
+    ensures gives { ListsGoOn T.firsts close result lexer.old lexer.new }
     ensures source { lexer.new.source ≡ lexer.old.source }
     ensures moves { lexer.old.place ≤ lexer.new.place }
     ensures rest { IfOk result (λ _. length (left lexer.new) ≤ length (left lexer.old)) }
@@ -81,7 +80,7 @@ fn parse_items<'a, T: Parse<'a> + Peek + Drop, E: From<Error>>(
 ) -> Result<Vec<T>, E>
     requires listed { closes T.symbol ≡ Some until }
     requires begins { T.firsts ≡ begins T.symbol }
-    ensures gives { GivesBy E.from_gives (λ v. map T.tree v.items) result lexer.old lexer.new (unclosed (list_of T.symbol (left lexer.old))) }
+    ensures gives { GivesItems E.from_gives T.tree (list_of T.symbol) result lexer.old lexer.new }
     ensures closed { OnOk result (at until (left lexer.new) ≡ true) }
     ensures source { lexer.new.source ≡ lexer.old.source }
     ensures moves { lexer.old.place ≤ lexer.new.place }
@@ -102,7 +101,7 @@ pub fn parse_list<'a, T: Parse<'a> + Peek + Drop, E: From<Error>>(
 ) -> Result<(Vec<T>, SourceSpan), E>
     requires listed { closes T.symbol ≡ Some until }
     requires begins { T.firsts ≡ begins T.symbol }
-    ensures takes { TakesListBy E.from_gives (λ v. map T.tree v.items) result lexer.old lexer.new (list_of T.symbol (left lexer.old)) }
+    ensures takes { TakesItems E.from_gives T.tree (list_of T.symbol) result lexer.old lexer.new }
     ensures source { lexer.new.source ≡ lexer.old.source }
     ensures moves { lexer.old.place ≤ lexer.new.place }
     ensures fits { IfOk result (λ x. end_of x.1 < 2 ^ 64) }
@@ -119,7 +118,7 @@ fn parse_each<'a, T: Parse<'a> + Peek + Drop, E: From<Error>>(
 ) -> Result<Vec<T>, E>
     requires repeated { repeats T.symbol ≡ true }
     requires begins { T.firsts ≡ begins T.symbol }
-    ensures gives { GivesBy E.from_gives (λ v. map T.tree v.items) result lexer.old lexer.new (unclosed (body_of T.symbol (left lexer.old))) }
+    ensures gives { GivesItems E.from_gives T.tree (body_of T.symbol) result lexer.old lexer.new }
     ensures closed { OnOk result (at tokens.CloseBrace (left lexer.new) ≡ true) }
     ensures source { lexer.new.source ≡ lexer.old.source }
     ensures moves { lexer.old.place ≤ lexer.new.place }
@@ -141,7 +140,7 @@ pub fn parse_body<'a, T: Parse<'a> + Peek + Drop, E: From<Error>>(
 ) -> Result<(Vec<T>, SourceSpan), E>
     requires repeated { repeats T.symbol ≡ true }
     requires begins { T.firsts ≡ begins T.symbol }
-    ensures takes { TakesListBy E.from_gives (λ v. map T.tree v.items) result lexer.old lexer.new (body_of T.symbol (left lexer.old)) }
+    ensures takes { TakesItems E.from_gives T.tree (body_of T.symbol) result lexer.old lexer.new }
     ensures source { lexer.new.source ≡ lexer.old.source }
     ensures moves { lexer.old.place ≤ lexer.new.place }
     ensures fits { IfOk result (λ x. end_of x.1 < 2 ^ 64) }

@@ -1,8 +1,8 @@
 //! Trying tokens at the next item.
 
 ghost use Rattle.std.specs.Prelude.{◌≡◌, ◌<◌, ◌∷◌, [], if◌then◌else◌, length};
-ghost use Rattle.wac_ast_base.specs.Lookahead.{looked, is_next, tried, told_of, kept_in};
-ghost use Rattle.wac_ast_base.specs.Error.{told_by, expected as expected_of, places};
+ghost use Rattle.wac_ast_base.specs.Lookahead.{looked, is_next, tried, told_of, kept_in, InFront};
+ghost use Rattle.wac_ast_base.specs.Error.{told_by, expected as expected_of};
 
 use crate::error::{Error, KEPT};
 use std::marker::Model;
@@ -21,14 +21,13 @@ pub struct Lookahead {
 
 impl Model for Lookahead {
     ghost use Rattle.std.specs.Prelude.{◌≡◌, length, min};
-    ghost use Rattle.wac_ast_base.specs.Lookahead.{Looked, kept_in};
-    ghost use Rattle.wac_ast_base.specs.Error.{places};
+    ghost use Rattle.wac_ast_base.specs.Lookahead.{Looked, kept_in, InFront};
 
     ghost Value = { Looked };
 
     ghost view = { λ l. record { next = l.next; span = l.span; kept = kept_in l.attempts; count = l.count } };
 
-    ghost invariant = { λ l. (l.attempts ≡ places 10 (kept_in l.attempts)) × (length (kept_in l.attempts) ≡ min l.count 10) };
+    ghost invariant = { λ l. InFront l.attempts × (length (kept_in l.attempts) ≡ min l.count 10) };
 }
 
 impl Lookahead {
@@ -99,7 +98,7 @@ fn expected(
     span: SourceSpan,
 ) -> Error
     requires some { 0 < length (kept_in attempts) }
-    requires in_front { attempts ≡ places 10 (kept_in attempts) }
+    requires in_front { InFront attempts }
     ensures { told_by result ≡ expected_of (kept_in attempts) count found span }
 {
     match attempts {

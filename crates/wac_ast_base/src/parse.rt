@@ -3,20 +3,19 @@
 ghost use Rattle.std.specs.Prelude.{◌≡◌, ◌≤◌, ◌<◌, ◌^◌, true, false, IfOk, IfErr, Some, Ok, map, [], List, OnOk, ◌++◌, ◌∷◌, alloc_error, IfSome, None, MatchResult};
 ghost use Rattle.wac_lexer.specs.Span.{span, end_of};
 ghost use Rattle.wac_lexer.specs.Item.{handed, behind_first, OnFirst};
-ghost use Rattle.wac_lexer.specs.Reading.{left, shown, slice, Slices, Reading, Nexts};
-ghost use Rattle.wac_ast_grammar.specs.Tokens.{at, is_token};
+ghost use Rattle.wac_lexer.specs.Reading.{left, slice, Slices, Nexts};
+ghost use Rattle.wac_ast_grammar.specs.Tokens.{at};
 ghost use Rattle.wac_ast_grammar.specs.Tree.{join as joined};
 ghost use Rattle.wac_ast_grammar.specs.Grammar.{Sym, TreeOf};
 ghost use Rattle.wac_ast_grammar.specs.Reading.{read};
-ghost use Rattle.wac_ast_base.specs.Error.{told_by, expected_one, no_memory, empty_type};
-ghost use Rattle.wac_ast_base.specs.Lookahead.{refusal, Peeks, fault_at};
-ghost use Rattle.wac_ast_base.specs.Answer.{Gives, Takes, plain, empty_end, end_of_input, first_item, has_more, TakesOptional, first_span};
+ghost use Rattle.wac_ast_base.specs.Error.{told_by, no_memory};
+ghost use Rattle.wac_ast_base.specs.Lookahead.{Peeks, next_fault};
+ghost use Rattle.wac_ast_base.specs.Answer.{Gives, Takes, plain, end_of_input, first_item, has_more, TakesOptional, RefusesNext, RefusesFound, RefusesEmpty};
 ghost use Rattle.wac_ast_base.specs.Names.{doc_comment_of};
 ghost use Rattle.wac_lexer.specs.declared.token.Token as the_token;
 ghost use Rattle.wac_ast_base.specs.declared.error.Error.TheVariants.{Memory};
 ghost use Rattle.std.specs.Fn.{FnOnceReturnsAtMut};
-ghost use Rattle.wac_ast_base.specs.Optional.{AnswersBy, FailsBy, ReportsFault};
-ghost use Rattle.wac_ast_grammar.specs.Consumed.{Consumed};
+ghost use Rattle.wac_ast_base.specs.Optional.{PassesOn, DerivesBehind, GivesNone, FailsBy, ReportsFault};
 ghost use Rattle.wac_lexer.specs.declared.token.Token.TheVariants as tokens;
 
 use crate::error::{Error, ParseResult};
@@ -63,7 +62,7 @@ pub trait Peek {
 #[tactic(auto, unfolding(crate::specs::Answer::told, crate::specs::Answer::end_of_input))]
 pub fn parse_token(lexer: &mut Lexer, expected: Token) -> ParseResult<SourceSpan>
     ensures ok { IfOk result (λ s. handed (left lexer.old) ≡ Some (Ok expected, s)) }
-    ensures refused { IfErr result (λ e. (at expected (left lexer.old) ≡ false) × (told_by e ≡ refusal (handed (left lexer.old)) (shown lexer.old.source (empty_end lexer.old.source)) (expected_one expected))) }
+    ensures refused { IfErr result (RefusesNext expected lexer.old) }
     // The item is consumed, whether it is the token or not.
     ensures nexts { Nexts lexer.old (handed (left lexer.old)) lexer.new }
     ensures rest { left lexer.new ≡ behind_first (left lexer.old) }
@@ -102,7 +101,7 @@ pub fn take_token(lexer: &mut Lexer, expected: Token) -> ParseResult<SourceSpan>
 /// Tests that an item is this token.
 fn test_token(found: LexerResult<Token>, span: SourceSpan, expected: Token) -> ParseResult<()>
     ensures ok { IfOk result (λ _. found ≡ Ok expected) }
-    ensures refused { IfErr result (λ e. (is_token expected found ≡ false) × (told_by e ≡ refusal (Some (found, span)) span (expected_one expected))) }
+    ensures refused { IfErr result (RefusesFound expected (found, span)) }
 {
     match found {
         Ok(found) => {
@@ -215,7 +214,7 @@ pub fn take_optional(lexer: &mut Lexer, expected: Token) -> ParseResult<bool>
 
 /// Rejects a fault of the text in the next item's place.
 fn refuse_fault(lexer: &Lexer) -> ParseResult<()>
-    ensures { MatchResult result (λ _. fault_at (handed (left lexer.now)) ≡ None) (λ e. fault_at (handed (left lexer.now)) ≡ Some (told_by e)) }
+    ensures { MatchResult result (λ _. next_fault lexer.now ≡ None) (λ e. next_fault lexer.now ≡ Some (told_by e)) }
 {
     match lexer.peek() {
         Some((found, span)) => match found {
@@ -236,13 +235,13 @@ pub fn parse_optional<'a, R, E: From<Error>, F: FnOnce(&mut Lexer<'a>) -> Result
 ) -> Result<Option<R>, E>
     requires { F.IsAlwaysCallable cb }
     // Where the token is next it is taken, and the callback's result is passed on.
-    ensures called { at expected (left lexer.old) ≡ true → (behind : Reading) × Nexts lexer.old (handed (left lexer.old)) behind × AnswersBy (FnOnceReturnsAtMut F.FnOnce cb behind) result lexer.new }
+    ensures called { PassesOn expected (FnOnceReturnsAtMut F.FnOnce cb) result lexer.old lexer.new }
     // Where each tree that the callback gives derives from the items that it took, so does what is given here.
-    ensures derives { (s : Sym) (view : R → TreeOf s) → ((old : Reading) (x : R) (new : Reading) → FnOnceReturnsAtMut F.FnOnce cb old (Ok x) new → Consumed s (left old) (left new) (view x)) → IfOk result (λ o. IfSome o (λ x. Consumed s (behind_first (left lexer.old)) (left lexer.new) (view x))) }
+    ensures derives { DerivesBehind (FnOnceReturnsAtMut F.FnOnce cb) result lexer.old lexer.new }
     // Another token and the end give nothing.
-    ensures none { at expected (left lexer.old) ≡ false → fault_at (handed (left lexer.old)) ≡ None → (result ≡ Ok None) × (lexer.new ≡ lexer.old) }
+    ensures none { GivesNone expected result lexer.old lexer.new }
     // A fault is rejected, and not taken.
-    ensures refused { IfSome (fault_at (handed (left lexer.old))) (FailsBy E.from_gives result lexer.old lexer.new) }
+    ensures refused { IfSome (next_fault lexer.old) (FailsBy E.from_gives result lexer.old lexer.new) }
 {
     if at(lexer, expected) {
         lexer.next();
@@ -258,7 +257,7 @@ pub fn parse_optional<'a, R, E: From<Error>, F: FnOnce(&mut Lexer<'a>) -> Result
 /// Rejects a closing brace in the next item's place, where a body of this type would have no such part.
 pub fn refuse_empty(lexer: &Lexer, ty: &'static str, kind: &'static str) -> ParseResult<()>
     ensures filled { IfOk result (λ _. at tokens.CloseBrace (left lexer.now) ≡ false) }
-    ensures refused { IfErr result (λ e. (at tokens.CloseBrace (left lexer.now) ≡ true) × (told_by e ≡ empty_type ty.now kind.now (first_span (left lexer.now)))) }
+    ensures refused { IfErr result (RefusesEmpty ty.now kind.now lexer.now) }
 {
     match lexer.peek() {
         Some((found, span)) => {

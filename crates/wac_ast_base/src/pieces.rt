@@ -1,15 +1,13 @@
 //! Some of the parts of a production.
 
-ghost use Rattle.std.specs.Prelude.{◌≡◌, ◌≤◌, true, false, map, Some, IfOk, IfErr};
-ghost use Rattle.std.specs.Option.{option_map};
+ghost use Rattle.std.specs.Prelude.{◌≡◌, ◌≤◌, true, false, Some, IfOk, IfErr};
 ghost use Rattle.wac_lexer.specs.Reading.{left};
 ghost use Rattle.wac_lexer.specs.declared.token.Token.TheVariants as tokens;
 ghost use Rattle.wac_ast_grammar.specs.Tokens.{at};
-ghost use Rattle.wac_ast_base.specs.Error.{told_by, empty_type};
-ghost use Rattle.wac_ast_base.specs.Answer.{plain, body_name, part_name, first_span};
+ghost use Rattle.wac_ast_base.specs.Answer.{plain, body_name, part_name, RefusesEmpty};
 ghost use Rattle.wac_ast_grammar.specs.Grammar.{token, perhaps, is_there};
 ghost use Rattle.wac_ast_grammar.specs.Reading.{begins};
-ghost use Rattle.wac_ast_base.specs.Pieces.{GivesPart, part_before, part_after, behind_word, body_of, body_of_items, filled, filled_items};
+ghost use Rattle.wac_ast_base.specs.Pieces.{GivesPart, GivesAfter, GivesFilled, Same, part_before, body_of, body_of_items};
 
 use crate::delimited::parse_list;
 use crate::error::{Error, ParseResult};
@@ -40,7 +38,7 @@ pub fn parse_after<'a, T: Parse<'a> + Drop, E: From<Error>>(
     word: Token,
 ) -> Result<Option<T>, E>
     requires { plain word ≡ true }
-    ensures gives { GivesPart (part_after word T.symbol) behind_word E.from_gives (option_map T.tree) result lexer.old lexer.new }
+    ensures gives { GivesAfter word T.symbol E.from_gives T.tree result lexer.old lexer.new }
     ensures source { lexer.new.source ≡ lexer.old.source }
     ensures moves { lexer.old.place ≤ lexer.new.place }
 {
@@ -55,7 +53,7 @@ pub fn parse_after<'a, T: Parse<'a> + Drop, E: From<Error>>(
 /// Whatever else is next, even a fault of the text, stays.
 pub fn take_word(lexer: &mut Lexer, word: Token) -> ParseResult<bool>
     requires { plain word ≡ true }
-    ensures gives { GivesPart (perhaps (token word)) is_there (λ e x. x ≡ e) (λ b. b) result lexer.old lexer.new }
+    ensures gives { GivesPart (perhaps (token word)) is_there Same (λ b. b) result lexer.old lexer.new }
     ensures source { lexer.new.source ≡ lexer.old.source }
     ensures moves { lexer.old.place ≤ lexer.new.place }
 {
@@ -87,7 +85,7 @@ pub fn parse_filled<'a, T: Parse<'a> + Peek + Drop, E: From<Error>>(
 ) -> Result<Vec<T>, E>
     requires filled { body_of_items T.symbol ≡ Some (body_of kind) }
     requires begins { T.firsts ≡ begins T.symbol }
-    ensures gives { GivesPart (filled T.symbol) (filled_items T.symbol) E.from_gives (λ v. map T.tree v.items) result lexer.old lexer.new }
+    ensures gives { GivesFilled T.symbol E.from_gives T.tree result lexer.old lexer.new }
     ensures source { lexer.new.source ≡ lexer.old.source }
     ensures moves { lexer.old.place ≤ lexer.new.place }
 {
@@ -100,7 +98,7 @@ pub fn parse_filled<'a, T: Parse<'a> + Peek + Drop, E: From<Error>>(
 /// Rejects a closing brace in the next item's place, naming the body and its parts.
 fn refuse_no_part(lexer: &Lexer, kind: BodyKind) -> ParseResult<()>
     ensures filled { IfOk result (λ _. at tokens.CloseBrace (left lexer.now) ≡ false) }
-    ensures refused { IfErr result (λ e. (at tokens.CloseBrace (left lexer.now) ≡ true) × (told_by e ≡ empty_type (body_name (body_of kind)) (part_name (body_of kind)) (first_span (left lexer.now)))) }
+    ensures refused { IfErr result (RefusesEmpty (body_name (body_of kind)) (part_name (body_of kind)) lexer.now) }
 {
     match kind {
         BodyKind::Variant => refuse_empty(lexer, "variant", "case"),

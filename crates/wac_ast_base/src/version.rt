@@ -1,13 +1,13 @@
 //! Versions of packages.
 
-ghost use Rattle.std.specs.Prelude.{◌≡◌, ◌<◌, ◌≤◌, ◌^◌, ◌⊎◌, true, false, IfOk, IfErr, Ok};
+ghost use Rattle.std.specs.Prelude.{◌≡◌, ◌<◌, ◌≤◌, ◌^◌, true, false, IfOk, IfErr, Ok};
 ghost use Rattle.std.specs.Option.{option_map};
 ghost use Rattle.semver.specs.Identifiers.{parts_of};
 ghost use Rattle.semver.specs.Parse.{version_parts};
 ghost use Rattle.wac_lexer.specs.Span.{span, end_of};
 ghost use Rattle.wac_ast_grammar.specs.Version.{is_ok, reads_version, unversioned, version_of};
 ghost use Rattle.wac_ast_base.specs.Error.{told_by, invalid_version, no_memory};
-ghost use Rattle.wac_ast_base.specs.Answer.{version_told, version_told_at, plain};
+ghost use Rattle.wac_ast_base.specs.Answer.{RefusesVersion, version_told, version_told_at, plain};
 ghost use Rattle.wac_ast_base.specs.Names.{TakesPackage};
 
 use crate::error::{Error, ParseResult};
@@ -64,7 +64,7 @@ pub fn parse_version<'a>(
     ensures reads { IfOk result (λ _. reads_version text.now ≡ true) }
     ensures name { IfOk result (λ p. p.0.now ≡ unversioned text.now) }
     ensures version { IfOk result (λ p. option_map parts_of p.1 ≡ version_of text.now) }
-    ensures refused { IfErr result (λ e. (told_by e ≡ no_memory) ⊎ ((reads_version text.now ≡ false) × (told_by e ≡ version_told text.now span))) }
+    ensures refused { IfErr result (RefusesVersion (reads_version text.now) (version_told text.now span)) }
 {
     match text.split_once('@') {
         Some((name, version)) => Ok((name, Some(read_version(alloc, version, span)?))),
@@ -76,7 +76,7 @@ pub fn parse_version<'a>(
 fn read_version(alloc: Global, text: &str, span: SourceSpan) -> ParseResult<Version>
     requires { end_of span < 2 ^ 64 }
     ensures ok { IfOk result (λ v. version_parts text.now ≡ Ok (parts_of v)) }
-    ensures refused { IfErr result (λ e. (told_by e ≡ no_memory) ⊎ ((is_ok (version_parts text.now) ≡ false) × (told_by e ≡ version_told_at text.now span))) }
+    ensures refused { IfErr result (RefusesVersion (is_ok (version_parts text.now)) (version_told_at text.now span)) }
 {
     match Version::parse(alloc, text) {
         Ok(version) => Ok(version),
