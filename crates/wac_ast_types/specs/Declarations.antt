@@ -1,6 +1,11 @@
 -- The trees of function types, and of declarations of types.
-use Rattle.std.specs.Prelude.{List, ◌∷◌, map}
+use Rattle.std.specs.Prelude.{List, ◌∷◌, map, Vec}
 use Rattle.std.specs.Option.{option_map}
+use Rattle.std.proofs.Common.{Global}
+use Rattle.wac_lexer.specs.Item.{Doc, Item}
+use Rattle.wac_lexer.specs.declared.token.Token.{Token}
+use Rattle.wac_ast_base.specs.declared.names.Ident.{Ident as CodeIdent}
+use Rattle.wac_ast_base.specs.declared.names.DocComment.{DocComment}
 use Rattle.wac_ast_grammar.specs.Tree as tree
 use Rattle.wac_ast_types.specs.declared.flags_decl.Flag.{Flag as CodeFlag}
 use Rattle.wac_ast_types.specs.declared.flags_decl.FlagsDecl.{FlagsDecl as CodeFlagsDecl}
@@ -9,7 +14,7 @@ use Rattle.wac_ast_types.specs.declared.enum_decl.EnumDecl.{EnumDecl as CodeEnum
 use Rattle.wac_ast_base.specs.Names.{ident_of, doc_comment_of}
 use Rattle.wac_ast_types.specs.Types.{ty_of}
 use Rattle.wac_lexer.specs.declared.token.Token.TheVariants as tokens
-use Rattle.wac_ast_grammar.specs.Grammar.{Grammar, Parts, token, sym, optional, ◌▸◌, result_list, named_type, params, more_items}
+use Rattle.wac_ast_grammar.specs.Grammar.{Grammar, Parts, token, sym, docs, identifier, optional, ◌▸◌, result_list, named_type, params, more_items}
 use Rattle.wac_ast_types.specs.declared.func_type.NamedType.{NamedType}
 use Rattle.wac_ast_types.specs.declared.func_type.ResultList.{ResultList}
 use Rattle.wac_ast_types.specs.declared.func_type.ResultList.TheVariants as results
@@ -32,6 +37,17 @@ use Rattle.wac_ast_types.specs.declared.type_decl.ItemTypeDecl.{ItemTypeDecl}
 use Rattle.wac_ast_types.specs.declared.type_decl.ItemTypeDecl.TheVariants as item_type_decls
 use Rattle.wac_ast_types.specs.declared.type_decl.TypeDecl.{TypeDecl}
 use Rattle.wac_ast_types.specs.declared.type_decl.TypeDecl.TheVariants as type_decls
+
+-- what declarations begin with: docs, a keyword, and the name that is declared
+abbrev pub head : Token → Grammar
+head keyword = docs (token keyword ▸ sym identifier)
+
+-- the docs and the name
+abbrev pub head_parts : List Doc × (Item × tree.Ident) → List Doc × tree.Ident
+head_parts p = (p.0, p.1.1)
+
+abbrev pub head_of : Vec DocComment Global × CodeIdent → List Doc × tree.Ident
+head_of x = (map doc_comment_of x.0.items, ident_of x.1)
 
 abbrev pub flag_of : CodeFlag → tree.Flag
 flag_of x = record { docs = map doc_comment_of x.docs.items; id = ident_of x.id }

@@ -85,6 +85,10 @@ word_at _ = None
 abbrev pub angled : Token → Grammar
 angled keyword = token keyword ▸ token tokens.OpenAngle ▸ sym ty ▸ token tokens.CloseAngle
 
+-- a type in a box and a span, as values have them
+abbrev pub angled_of : Box code.Type Global × Span → Ty × Span
+angled_of x = (ty_of x.0.value, x.1)
+
 abbrev pub angled_parts : Item × (Item × (Ty × Item)) → Ty × Span
 angled_parts p = (p.1.1.0, join p.0.span p.1.1.1.span)
 

@@ -1,15 +1,16 @@
 //! Function types.
 
-ghost use Rattle.std.specs.Prelude.{◌≡◌, ◌≤◌, [], true, map, OnOk, IfErr};
+ghost use Rattle.std.specs.Prelude.{◌≡◌, ◌≤◌, true, OnOk, IfErr};
 ghost use Rattle.wac_lexer.specs.Reading.{left};
 ghost use Rattle.wac_lexer.specs.declared.token.Token.TheVariants as tokens;
 ghost use Rattle.wac_ast_grammar.specs.Grammar as symbols;
 ghost use Rattle.wac_ast_grammar.specs.Grammar.{results_of};
-ghost use Rattle.wac_ast_grammar.specs.Reading.{begins, read_token};
+ghost use Rattle.wac_ast_grammar.specs.Reading.{begins};
 ghost use Rattle.wac_ast_grammar.specs.Tokens.{at};
-ghost use Rattle.wac_ast_base.specs.Answer.{Fails, end_of_input};
+ghost use Rattle.wac_ast_base.specs.Answer.{FailsToTake};
 ghost use Rattle.wac_ast_base.specs.Lookahead.{Peeks};
-ghost use Rattle.wac_ast_base.specs.Pieces.{GivesPart};
+ghost use Rattle.wac_ast_base.specs.Lists.{each};
+ghost use Rattle.wac_ast_base.specs.Pieces.{GivesPart, Same};
 ghost use Rattle.wac_ast_types.specs.Declarations.{named_type_of, result_list_of, func_type_of, func_type_ref_of, results_rule, named_rule, named_results};
 
 use crate::debug::write_variant;
@@ -78,7 +79,7 @@ impl<'a> Peek for FuncType<'a> {
 
 /// What a function returns, after an arrow.
 fn parse_results<'a>(alloc: Global, lexer: &mut Lexer<'a>) -> ParseResult<ResultList<'a>>
-    ensures gives { GivesPart results_rule results_of (λ e x. x ≡ e) result_list_of result lexer.old lexer.new }
+    ensures gives { GivesPart results_rule results_of Same result_list_of result lexer.old lexer.new }
     ensures source { lexer.new.source ≡ lexer.old.source }
     ensures moves { lexer.old.place ≤ lexer.new.place }
 {
@@ -127,7 +128,7 @@ impl<'a> Parse<'a> for ResultList<'a> {
 
 /// Results with names, in parentheses: at least one.
 fn parse_named<'a>(alloc: Global, lexer: &mut Lexer<'a>) -> ParseResult<Vec<NamedType<'a>>>
-    ensures gives { GivesPart named_rule named_results (λ e x. x ≡ e) (λ v. map named_type_of v.items) result lexer.old lexer.new }
+    ensures gives { GivesPart named_rule named_results Same (each named_type_of) result lexer.old lexer.new }
     ensures source { lexer.new.source ≡ lexer.old.source }
     ensures moves { lexer.old.place ≤ lexer.new.place }
 {
@@ -140,7 +141,7 @@ fn parse_named<'a>(alloc: Global, lexer: &mut Lexer<'a>) -> ParseResult<Vec<Name
 /// Rejects anything but an identifier in the next item's place, as where one is expected in a sequence.
 fn test_name(lexer: &mut Lexer) -> ParseResult<()>
     ensures ok { OnOk result ((lexer.new ≡ lexer.old) × (at tokens.Ident (left lexer.old) ≡ true)) }
-    ensures refused { IfErr result (λ e. Fails e (end_of_input lexer.old) (read_token [] tokens.Ident (left lexer.old))) }
+    ensures refused { IfErr result (FailsToTake tokens.Ident lexer.old) }
     ensures source { lexer.new.source ≡ lexer.old.source }
     ensures moves { lexer.old.place ≤ lexer.new.place }
 {

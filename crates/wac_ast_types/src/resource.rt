@@ -1,10 +1,11 @@
 //! Resources.
 
-ghost use Rattle.std.specs.Prelude.{◌≡◌, ◌≤◌, map};
+ghost use Rattle.std.specs.Prelude.{◌≡◌, ◌≤◌};
 ghost use Rattle.wac_ast_grammar.specs.Grammar as symbols;
 ghost use Rattle.wac_ast_grammar.specs.Reading.{begins};
 ghost use Rattle.wac_ast_base.specs.Lookahead.{Peeks};
-ghost use Rattle.wac_ast_base.specs.Pieces.{GivesPart};
+ghost use Rattle.wac_ast_base.specs.Lists.{each};
+ghost use Rattle.wac_ast_base.specs.Pieces.{GivesPart, Same};
 ghost use Rattle.wac_ast_types.specs.Declarations.{constructor_of, method_of, resource_method_of, resource_decl_of};
 ghost use Rattle.wac_ast_types.specs.Tails.{resource_tail, tail_methods};
 
@@ -54,7 +55,7 @@ impl<'a> Parse<'a> for ResourceDecl<'a> {
 
 /// The methods of a resource in braces, or a semicolon, where it has none.
 fn parse_methods<'a>(alloc: Global, lexer: &mut Lexer<'a>) -> ParseResult<Vec<ResourceMethod<'a>>>
-    ensures gives { GivesPart resource_tail tail_methods (λ e x. x ≡ e) (λ v. map resource_method_of v.items) result lexer.old lexer.new }
+    ensures gives { GivesPart resource_tail tail_methods Same (each resource_method_of) result lexer.old lexer.new }
     ensures source { lexer.new.source ≡ lexer.old.source }
     ensures moves { lexer.old.place ≤ lexer.new.place }
 {

@@ -1,21 +1,19 @@
 //! Types.
 
-ghost use Rattle.std.specs.Prelude.{◌≡◌, ◌<◌, ◌≤◌, [], ◌∷◌, true, false, map, IfOk, IfErr, OnOk};
+ghost use Rattle.std.specs.Prelude.{◌≡◌, ◌<◌, ◌≤◌, ◌∷◌, true, false, IfOk, IfErr, OnOk};
 ghost use Rattle.std.specs.Option.{option_map};
 ghost use Rattle.wac_lexer.specs.Item.{handed, behind_first};
 ghost use Rattle.wac_lexer.specs.Reading.{left};
 ghost use Rattle.wac_lexer.specs.declared.token.Token.TheVariants as tokens;
 ghost use Rattle.wac_ast_grammar.specs.Grammar as symbols;
 ghost use Rattle.wac_ast_grammar.specs.Tokens.{at};
-ghost use Rattle.wac_ast_grammar.specs.Grammar.{sym};
-ghost use Rattle.wac_ast_grammar.specs.Reading.{read, read_in, begins, can, at_one_of};
-ghost use Rattle.wac_ast_base.specs.declared.error.Error.{Error as Fault};
+ghost use Rattle.wac_ast_grammar.specs.Reading.{read, begins, at_one_of};
 ghost use Rattle.wac_ast_base.specs.Error.{told_by};
 ghost use Rattle.wac_ast_base.specs.Lookahead.{Peeks, looked, tried, told_of};
-ghost use Rattle.wac_ast_base.specs.Answer.{Gives, Fails, plain, has_more, first_item, end_of_input};
-ghost use Rattle.wac_ast_base.specs.Lists.{unclosed};
-ghost use Rattle.wac_ast_base.specs.Pieces.{GivesPart};
-ghost use Rattle.wac_ast_types.specs.Types.{ty_of, optional_of, compound, word_type, word_at, angled, angled_parts, with_payload, second_rule, second_of, MadeOf};
+ghost use Rattle.wac_ast_base.specs.Answer.{Gives, Fails, FailsAs, plain, has_more, first_item, end_of_input};
+ghost use Rattle.wac_ast_base.specs.Lists.{GivesItem, each, items_of};
+ghost use Rattle.wac_ast_base.specs.Pieces.{GivesPart, Same};
+ghost use Rattle.wac_ast_types.specs.Types.{ty_of, optional_of, compound, word_type, word_at, angled, angled_parts, angled_of, with_payload, second_rule, second_of, MadeOf};
 ghost use Rattle.wac_ast_grammar.specs.Spans.{ty_span};
 
 use std::alloc::Global;
@@ -329,7 +327,7 @@ fn parse_tuple<'a>(alloc: Global, lexer: &mut Lexer<'a>) -> ParseResult<Type<'a>
 /// The types up to a closing angle, which stays.
 #[cycle(types)]
 fn parse_types<'a>(alloc: Global, lexer: &mut Lexer<'a>) -> ParseResult<Vec<Type<'a>>>
-    ensures gives { Gives (λ v. map ty_of v.items) result lexer.old lexer.new (unclosed (read (symbols.list_items symbols.types) (left lexer.old))) }
+    ensures gives { Gives (each ty_of) result lexer.old lexer.new (items_of symbols.ty (left lexer.old)) }
     ensures closed { OnOk result (at tokens.CloseAngle (left lexer.new) ≡ true) }
     ensures source { lexer.new.source ≡ lexer.old.source }
     ensures moves { lexer.old.place ≤ lexer.new.place }
@@ -346,7 +344,7 @@ fn parse_types<'a>(alloc: Global, lexer: &mut Lexer<'a>) -> ParseResult<Vec<Type
 #[cycle(types)]
 fn parse_listed<'a>(alloc: Global, lexer: &mut Lexer<'a>) -> ParseResult<Type<'a>>
     requires { at tokens.CloseAngle (left lexer.old) ≡ false }
-    ensures gives { Gives ty_of result lexer.old lexer.new (read_in read (sym symbols.ty) (can tokens.CloseAngle ∷ []) (left lexer.old)) }
+    ensures gives { GivesItem symbols.ty tokens.CloseAngle ty_of result lexer.old lexer.new }
     ensures source { lexer.new.source ≡ lexer.old.source }
     ensures moves { lexer.old.place ≤ lexer.new.place }
 {
@@ -364,7 +362,7 @@ fn parse_angled<'a>(
     keyword: Token,
 ) -> ParseResult<(Box<Type<'a>>, SourceSpan)>
     requires { plain keyword ≡ true }
-    ensures gives { GivesPart (angled keyword) angled_parts (λ e x. x ≡ e) (λ x. (ty_of x.0.value, x.1)) result lexer.old lexer.new }
+    ensures gives { GivesPart (angled keyword) angled_parts Same angled_of result lexer.old lexer.new }
     ensures source { lexer.new.source ≡ lexer.old.source }
     ensures moves { lexer.old.place ≤ lexer.new.place }
 {
@@ -421,7 +419,7 @@ fn parse_result_part<'a>(alloc: Global, lexer: &mut Lexer<'a>) -> ParseResult<Op
 /// The part of a result after a comma, where a comma is next.
 #[cycle(types)]
 fn parse_second_part<'a>(alloc: Global, lexer: &mut Lexer<'a>) -> ParseResult<Option<Box<Type<'a>>>>
-    ensures gives { GivesPart second_rule second_of (λ e x. x ≡ e) optional_of result lexer.old lexer.new }
+    ensures gives { GivesPart second_rule second_of Same optional_of result lexer.old lexer.new }
     ensures source { lexer.new.source ≡ lexer.old.source }
     ensures moves { lexer.old.place ≤ lexer.new.place }
 {
@@ -466,7 +464,7 @@ pub fn parse_optional_payload<
     // Nothing is read after it: at the end of the input the lexer reports the span of the last item.
     ensures end { IfOk result (λ _. end_of_input lexer.new ≡ end_of_input lexer.old) }
     // An error reports the place where no such type continues.
-    ensures refused { IfErr result (λ x. (e : Fault) × E.from_gives e x × Fails e (end_of_input lexer.old) (with_payload (left lexer.old))) }
+    ensures refused { IfErr result (FailsAs E.from_gives (end_of_input lexer.old) (with_payload (left lexer.old))) }
     ensures source { lexer.new.source ≡ lexer.old.source }
     ensures moves { lexer.old.place ≤ lexer.new.place }
 {

@@ -5,7 +5,7 @@ ghost use Rattle.std.specs.Option.{option_map};
 ghost use Rattle.wac_ast_grammar.specs.Grammar as symbols;
 ghost use Rattle.wac_ast_grammar.specs.Reading.{begins};
 ghost use Rattle.wac_ast_base.specs.Lookahead.{Peeks};
-ghost use Rattle.wac_ast_base.specs.Pieces.{GivesPart};
+ghost use Rattle.wac_ast_base.specs.Pieces.{GivesPart, Same};
 ghost use Rattle.wac_ast_types.specs.Types.{ty_of};
 ghost use Rattle.wac_ast_types.specs.Declarations.{variant_case_of, variant_decl_of};
 ghost use Rattle.wac_ast_types.specs.Tails.{case_tail, held_type};
@@ -99,7 +99,7 @@ impl<'a> Parse<'a> for VariantCase<'a> {
 
 /// What a case holds, in parentheses.
 fn parse_held<'a>(alloc: Global, lexer: &mut Lexer<'a>) -> ParseResult<Option<Type<'a>>>
-    ensures gives { GivesPart case_tail held_type (λ e x. x ≡ e) (option_map ty_of) result lexer.old lexer.new }
+    ensures gives { GivesPart case_tail held_type Same (option_map ty_of) result lexer.old lexer.new }
     ensures source { lexer.new.source ≡ lexer.old.source }
     ensures moves { lexer.old.place ≤ lexer.new.place }
 {
