@@ -1,7 +1,8 @@
 -- The trees of expressions.
-use Rattle.std.specs.Prelude.{List, map}
+use Rattle.std.specs.Prelude.{List, map, ◌<◌, ◌^◌}
+use Rattle.wac_lexer.specs.Span.{Span, end_of}
 use Rattle.wac_lexer.specs.Item.{Item}
-use Rattle.wac_ast_grammar.specs.Grammar.{build, expr, postfixes as postfix_list}
+use Rattle.wac_ast_grammar.specs.Grammar.{last_span, build, expr, postfixes as postfix_list}
 use Rattle.wac_ast_grammar.specs.Reading.{mapped, read}
 use Rattle.wac_ast_base.specs.Lists.{Reads}
 use Rattle.wac_ast_grammar.specs.Tree as tree
@@ -63,6 +64,13 @@ new_expr_of x = PrimaryExpr.new x.span (package_name_of x.«package») (argument
 abbrev pub named_argument_of : CodeNamedArgument → tree.NamedInstantiationArgument
 named_argument_of x = record { name = argument_name_of x.name; expr = expr_of x.expr }
 
+-- Accesses after a span whose end fits a machine word end at one that fits it too.
+abbrev pub EndFits : List PostfixExpr → Type 0
+EndFits others = (s : Span) → end_of s < 2 ^ 64 → end_of (last_span s others) < 2 ^ 64
+
 -- an expression, after what comes first in it
 abbrev pub after_primary : PrimaryExpr → List Item → Reads Expr
 after_primary first xs = mapped (λ others. build expr (first, others)) (read postfix_list xs)
+
+abbrev pub after_first : CodePrimaryExpr → List Item → Reads Expr
+after_first x = after_primary (primary_expr_of x)

@@ -1,19 +1,19 @@
 //! Expressions.
 
-ghost use Rattle.std.specs.Prelude.{◌≡◌, ◌<◌, ◌≤◌, ◌^◌, ◌||◌, [], ◌∷◌, map, true, false, IfOk, OnOk};
-ghost use Rattle.wac_lexer.specs.Span.{end_of, Span};
+ghost use Rattle.std.specs.Prelude.{◌≡◌, ◌<◌, ◌≤◌, ◌^◌, ◌||◌, map, true, false, IfOk, OnOk};
+ghost use Rattle.wac_lexer.specs.Span.{end_of};
 ghost use Rattle.wac_lexer.specs.Item.{behind_first};
 ghost use Rattle.wac_lexer.specs.Reading.{left};
 ghost use Rattle.wac_lexer.specs.declared.token.Token.TheVariants as tokens;
 ghost use Rattle.wac_ast_grammar.specs.Tokens.{at};
 ghost use Rattle.wac_ast_grammar.specs.Grammar as symbols;
-ghost use Rattle.wac_ast_grammar.specs.Grammar.{sym, primary_span, postfix_span, last_span};
-ghost use Rattle.wac_ast_grammar.specs.Reading.{read, read_in, begins, can, at_one_of};
+ghost use Rattle.wac_ast_grammar.specs.Grammar.{primary_span, postfix_span, last_span};
+ghost use Rattle.wac_ast_grammar.specs.Reading.{read, begins, at_one_of};
 ghost use Rattle.wac_ast_base.specs.Error.{told_by};
 ghost use Rattle.wac_ast_base.specs.Lookahead.{Peeks, looked, tried, told_of};
-ghost use Rattle.wac_ast_base.specs.Lists.{unclosed};
+ghost use Rattle.wac_ast_base.specs.Lists.{GivesItem, each, items_of};
 ghost use Rattle.wac_ast_base.specs.Answer.{Gives};
-ghost use Rattle.wac_ast_expressions.specs.Expressions.{access_expr_of, named_access_expr_of, postfix_expr_of, primary_expr_of, expr_of, new_expr_of, nested_expr_of, argument_of, argument_name_of, named_argument_of, after_primary};
+ghost use Rattle.wac_ast_expressions.specs.Expressions.{access_expr_of, named_access_expr_of, postfix_expr_of, primary_expr_of, expr_of, new_expr_of, nested_expr_of, argument_of, argument_name_of, named_argument_of, after_first, EndFits};
 ghost use Rattle.wac_ast_grammar.specs.Spans.{argument_name_span, argument_name_text};
 
 use std::alloc::Global;
@@ -291,7 +291,7 @@ fn parse_accesses_after<'a>(
     primary: PrimaryExpr<'a>,
 ) -> ParseResult<Expr<'a>>
     requires { end_of (primary_span (primary_expr_of primary)) < 2 ^ 64 }
-    ensures gives { Gives expr_of result lexer.old lexer.new (after_primary (primary_expr_of primary.entry) (left lexer.old)) }
+    ensures gives { Gives expr_of result lexer.old lexer.new (after_first primary.entry (left lexer.old)) }
     ensures source { lexer.new.source ≡ lexer.old.source }
     ensures moves { lexer.old.place ≤ lexer.new.place }
 {
@@ -374,7 +374,7 @@ fn parse_arguments<'a>(
     alloc: Global,
     lexer: &mut Lexer<'a>,
 ) -> ParseResult<Vec<InstantiationArgument<'a>>>
-    ensures gives { Gives (λ v. map argument_of v.items) result lexer.old lexer.new (unclosed (read (symbols.list_items symbols.arguments) (left lexer.old))) }
+    ensures gives { Gives (each argument_of) result lexer.old lexer.new (items_of symbols.argument (left lexer.old)) }
     ensures closed { OnOk result (at tokens.CloseBrace (left lexer.new) ≡ true) }
     ensures source { lexer.new.source ≡ lexer.old.source }
     ensures moves { lexer.old.place ≤ lexer.new.place }
@@ -391,7 +391,7 @@ fn parse_arguments<'a>(
 #[cycle(parser)]
 fn parse_listed<'a>(alloc: Global, lexer: &mut Lexer<'a>) -> ParseResult<InstantiationArgument<'a>>
     requires { at tokens.CloseBrace (left lexer.old) ≡ false }
-    ensures gives { Gives argument_of result lexer.old lexer.new (read_in read (sym symbols.argument) (can tokens.CloseBrace ∷ []) (left lexer.old)) }
+    ensures gives { GivesItem symbols.argument tokens.CloseBrace argument_of result lexer.old lexer.new }
     ensures source { lexer.new.source ≡ lexer.old.source }
     ensures moves { lexer.old.place ≤ lexer.new.place }
 {
@@ -561,10 +561,10 @@ impl<'a> Peek for NestedExpr<'a> {
 
 /// The accesses that follow a primary expression.
 fn parse_postfixes<'a>(alloc: Global, lexer: &mut Lexer<'a>) -> ParseResult<Vec<PostfixExpr<'a>>>
-    ensures gives { Gives (λ v. map postfix_expr_of v.items) result lexer.old lexer.new (read symbols.postfixes (left lexer.old)) }
+    ensures gives { Gives (each postfix_expr_of) result lexer.old lexer.new (read symbols.postfixes (left lexer.old)) }
     ensures source { lexer.new.source ≡ lexer.old.source }
     ensures moves { lexer.old.place ≤ lexer.new.place }
-    ensures fits { IfOk result (λ v. (s : Span) → end_of s < 2 ^ 64 → end_of (last_span s (map postfix_expr_of v.items)) < 2 ^ 64) }
+    ensures fits { IfOk result (λ v. EndFits (map postfix_expr_of v.items)) }
 {
     let mut postfixes = Vec::new(alloc);
     while begins::<PostfixExpr>(lexer) {
