@@ -1,11 +1,12 @@
 //! Inclusions of worlds.
 
-ghost use Rattle.std.specs.Prelude.{◌≡◌, ◌≤◌, map};
+ghost use Rattle.std.specs.Prelude.{◌≡◌, ◌≤◌};
 ghost use Rattle.wac_ast_grammar.specs.Grammar as symbols;
 ghost use Rattle.wac_ast_grammar.specs.Reading.{begins};
 ghost use Rattle.wac_ast_grammar.specs.Spans.{world_ref_name, world_ref_span};
 ghost use Rattle.wac_ast_base.specs.Lookahead.{Peeks};
-ghost use Rattle.wac_ast_base.specs.Pieces.{GivesPart};
+ghost use Rattle.wac_ast_base.specs.Lists.{each};
+ghost use Rattle.wac_ast_base.specs.Pieces.{GivesPart, Same};
 ghost use Rattle.wac_ast_uses.specs.Tails.{with_part, with_items};
 ghost use Rattle.wac_ast_uses.specs.Uses.{world_ref_of, world_include_item_of, world_include_of};
 
@@ -135,7 +136,7 @@ impl<'a> Parse<'a> for WorldInclude<'a> {
 
 /// The new names after `with`, where it is next.
 fn parse_with<'a>(alloc: Global, lexer: &mut Lexer<'a>) -> ParseResult<Vec<WorldIncludeItem<'a>>>
-    ensures gives { GivesPart with_part with_items (λ e x. x ≡ e) (λ v. map world_include_item_of v.items) result lexer.old lexer.new }
+    ensures gives { GivesPart with_part with_items Same (each world_include_item_of) result lexer.old lexer.new }
     ensures source { lexer.new.source ≡ lexer.old.source }
     ensures moves { lexer.old.place ≤ lexer.new.place }
 {

@@ -1,10 +1,11 @@
 //! Uses of types of an interface.
 
-ghost use Rattle.std.specs.Prelude.{◌≡◌, ◌≤◌, map};
+ghost use Rattle.std.specs.Prelude.{◌≡◌, ◌≤◌};
 ghost use Rattle.wac_ast_grammar.specs.Grammar as symbols;
 ghost use Rattle.wac_ast_grammar.specs.Reading.{begins};
 ghost use Rattle.wac_ast_base.specs.Lookahead.{Peeks};
-ghost use Rattle.wac_ast_base.specs.Pieces.{GivesPart};
+ghost use Rattle.wac_ast_base.specs.Lists.{each};
+ghost use Rattle.wac_ast_base.specs.Pieces.{GivesPart, Same};
 ghost use Rattle.wac_ast_uses.specs.Tails.{use_tail, tail_items};
 ghost use Rattle.wac_ast_uses.specs.Uses.{use_item_of, use_path_of, use_of};
 
@@ -43,7 +44,7 @@ impl<'a> Parse<'a> for Use<'a> {
 
 /// The items of a `use`, from the opening brace to the semicolon.
 fn parse_use_items<'a>(alloc: Global, lexer: &mut Lexer<'a>) -> ParseResult<Vec<UseItem<'a>>>
-    ensures gives { GivesPart use_tail tail_items (λ e x. x ≡ e) (λ v. map use_item_of v.items) result lexer.old lexer.new }
+    ensures gives { GivesPart use_tail tail_items Same (each use_item_of) result lexer.old lexer.new }
     ensures source { lexer.new.source ≡ lexer.old.source }
     ensures moves { lexer.old.place ≤ lexer.new.place }
 {
