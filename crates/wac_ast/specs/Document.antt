@@ -1,5 +1,5 @@
 -- What parsing a whole text returns, in the words of its public contract.
-use Rattle.std.specs.Prelude.{◌≡◌, ℕ, List, [], ◌⊎◌, Option, Some, None, Result, Ok, Err}
+use Rattle.std.specs.Prelude.{◌≡◌, ℕ, List, [], ◌⊎◌, Option, Some, None, Result, Ok, Err, MatchResult, alloc_error}
 use Rattle.wac_lexer.specs.Span.{Span, span}
 use Rattle.wac_lexer.specs.Items.{items}
 use Rattle.wac_lexer.specs.Characters.{refused}
@@ -8,6 +8,7 @@ use Rattle.wac_ast_grammar.specs.Tree.{Document}
 use Rattle.wac_ast_grammar.specs.Grammar.{document}
 use Rattle.wac_ast_grammar.specs.Reading.{read}
 use Rattle.wac_ast_base.specs.declared.error.Error.{Error}
+use Rattle.wac_ast_base.specs.declared.error.Error.TheVariants.{Memory}
 use Rattle.wac_ast_base.specs.Error.{Told, told_by, faulty, no_memory}
 use Rattle.wac_ast_base.specs.Answer.{End, final_span, told_in}
 use Rattle.wac_ast_base.specs.FirstFault.{TellsFirstFault}
@@ -33,6 +34,10 @@ TellsRefused text told = (fault : Fault) × (s : Span) × (refused text ≡ Some
 pub record ErrorOf (told : Told) (text : List ℕ) : Type 0 where
   pub is : told_of_text text ≡ Some told
   pub lies : TellsRefused text told ⊎ ((refused text ≡ None) × TellsFirstFault document (end_of_text text) (items text) told)
+
+-- This tree is returned, as view sees it, unless memory ran out.
+abbrev pub ReturnsTree : {D : Type 0} → (D → Document) → Result D Error → Document → Type 0
+ReturnsTree view result tree = MatchResult result (λ d. view d ≡ tree) (λ e. e ≡ Memory alloc_error)
 
 -- ---- the result, by reading
 

@@ -1,13 +1,14 @@
 //! Documents.
 
-ghost use Rattle.std.specs.Prelude.{◌≡◌, ◌<◌, ◌⊎◌, [], map, alloc_error, IfOk, IfErr, OnOk, MatchResult};
+ghost use Rattle.std.specs.Prelude.{◌≡◌, ◌<◌, ◌⊎◌, [], alloc_error, IfOk, IfErr, OnOk};
 ghost use Rattle.wac_lexer.specs.Reading.{left};
 ghost use Rattle.wac_ast_base.specs.declared.error.Error.TheVariants.{Memory};
 ghost use Rattle.wac_ast_base.specs.Error.{told_by};
 ghost use Rattle.wac_ast_grammar.specs.Tree.{Document as Tree};
 ghost use Rattle.wac_ast_base.specs.Answer.{Gives};
+ghost use Rattle.wac_ast_base.specs.Lists.{each};
 ghost use Rattle.wac_ast_grammar.specs.TextTree.{IsTreeOf};
-ghost use Rattle.wac_ast.specs.Document.{ErrorOf, Parses};
+ghost use Rattle.wac_ast.specs.Document.{ErrorOf, ReturnsTree, Parses};
 ghost use Rattle.wac_ast_grammar.specs.Slices.{DocumentSlices};
 ghost use Rattle.wac_ast_grammar.specs.Reading.{read};
 ghost use Rattle.wac_ast_grammar.specs.Grammar as symbols;
@@ -53,7 +54,7 @@ impl<'a> Document<'a> {
         // What is returned is the text's tree.
         ensures found { IfOk result (λ d. IsTreeOf source.now (document_of d)) }
         // Where the text has a tree, that one is returned, unless memory runs out.
-        ensures only { (t : Tree) → IsTreeOf source.now t → MatchResult result (λ d. document_of d ≡ t) (λ e. e ≡ Memory alloc_error) }
+        ensures only { (t : Tree) → IsTreeOf source.now t → ReturnsTree document_of result t }
         // A text has at most one tree.
         ensures one { (t u : Tree) → IsTreeOf source.now t → IsTreeOf source.now u → t ≡ u }
         // The spans of the tree slice the text.
@@ -91,7 +92,7 @@ fn parse_parts<'a>(alloc: Global, lexer: &mut Lexer<'a>) -> ParseResult<Document
 
 /// The statements up to the end of the input.
 fn parse_statements<'a>(alloc: Global, lexer: &mut Lexer<'a>) -> ParseResult<Vec<Statement<'a>>>
-    ensures gives { Gives (λ v. map statement_of v.items) result lexer.old lexer.new (read symbols.statements (left lexer.old)) }
+    ensures gives { Gives (each statement_of) result lexer.old lexer.new (read symbols.statements (left lexer.old)) }
     ensures ended { OnOk result (left lexer.new ≡ []) }
 {
     let mut statements = Vec::new(alloc);
