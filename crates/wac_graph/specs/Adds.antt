@@ -1,10 +1,11 @@
--- What a table gains.
-use Rattle.std.specs.Prelude.{◌≡◌, ◌+◌, ℕ, Some, length, slice_get}
+-- What a table gains, and what a graph does.
+use Rattle.std.specs.Prelude.{◌≡◌, ◌+◌, ℕ, Some, IfSome, length, slice_get}
 use Rattle.wac_graph_types.specs.declared.entry.Entry.{Entry}
+use Rattle.wac_graph_types.specs.declared.kind.ItemKind.TheVariants as kinds
 use Rattle.wac_graph_types.specs.Growth.{KeepsNames}
 use Rattle.wac_graph_types.specs.Package.{PackageParts}
 use Rattle.wac_graph_copies.specs.Copied.{IsGrownBy, MeansTheSame}
-use Rattle.wac_graph.specs.Graph.{Parts, with_entry, with_package}
+use Rattle.wac_graph.specs.Graph.{Parts, with_entry, with_package, with_instantiation}
 use Rattle.wac_graph.specs.Means.{declared_count, resources_in, KeepsKinds, MeansAdded, CopiesMean}
 use Rattle.wac_graph.specs.Package.{Key}
 use Rattle.wac_graph.specs.Packages.{HoldsContents}
@@ -28,3 +29,8 @@ pub record AddsPackage (old new : Parts) (key : Key) (p : PackageParts) (id : �
   pub copied : CopiesMean old new key p
   pub contents : HoldsContents old new key p
   pub count : declared_count new ≡ declared_count old
+
+-- one more node, an instance of the package of a number
+abbrev pub AddsInstance : Parts → Parts → ℕ → Type 0
+AddsInstance old new p = IfSome (slice_get old.packages p)
+    (λ h. new ≡ with_instantiation old p (kinds.Instance h.instance))

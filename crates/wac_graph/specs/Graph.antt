@@ -1,5 +1,5 @@
 -- The parts of a composition's graph.
-use Rattle.std.specs.Prelude.{ℕ, List, [], ◌∷◌, ◌++◌, Option, Some, None, option_and_then, length, slice_get, slice_set}
+use Rattle.std.specs.Prelude.{ℕ, List, [], ◌∷◌, ◌++◌, Option, Some, None, option_map, option_and_then, length, slice_get, slice_set}
 use Rattle.std.specs.List.{position}
 use Rattle.wac_graph_types.specs.declared.kind.ItemKind.{ItemKind}
 use Rattle.wac_graph_types.specs.declared.entry.Entry.{Entry}
@@ -16,6 +16,16 @@ pub record Parts : Type 0 where
   pub nodes : List Node
   pub imports : Named ℕ
   pub exports : Named ℕ
+
+-- a graph of these parts
+abbrev pub graph_of : List Entry → List HeldPackage → List Node → Named ℕ → Named ℕ → Parts
+graph_of types packages nodes imports exports = record {
+  types = types;
+  packages = packages;
+  nodes = nodes;
+  imports = imports;
+  exports = exports;
+}
 
 abbrev pub empty : Parts
 empty = record { types = []; packages = []; nodes = []; imports = []; exports = [] }
@@ -46,6 +56,15 @@ parameter_kind g node name = option_and_then (λ p. import_kind g p name) (packa
 abbrev pub arguments_of : Parts → ℕ → Named ℕ
 arguments_of g node = elim (slice_get g.nodes node) [ None ↦ [] | Some n ↦ arguments_in n.form ]
 
+-- what is read of the form of a node
+abbrev pub read_form : {X : Type 0} → (Form → X) → Parts → ℕ → Option X
+read_form read g node = option_map (λ (n : Node). read n.form) (slice_get g.nodes node)
+
+-- the name of a package's import in a place
+abbrev pub import_in_place : Parts → ℕ → ℕ → Option (List ℕ)
+import_in_place g p at = option_map (λ (e : List ℕ × ItemKind). e.0)
+    (option_and_then (λ (h : HeldPackage). slice_get (world_imports g.types h.world.0) at) (slice_get g.packages p))
+
 -- ---- what is added
 
 abbrev pub with_entry : Parts → Entry → Parts
@@ -75,16 +94,24 @@ with_instantiation g p k = record g { nodes = g.nodes ++ plain_node (instantiati
 abbrev pub changed : Parts → ℕ → (Node → Node) → Parts
 changed g node f = record g { nodes = elim (slice_get g.nodes node) [ None ↦ g.nodes | Some n ↦ slice_set g.nodes node (f n) ] }
 
+-- a node that has this name
+abbrev pub node_named : List ℕ → Node → Node
+node_named name n = record n { name = Some name }
+
 abbrev pub with_name : Parts → ℕ → List ℕ → Parts
-with_name g node name = changed g node (λ n. record n { name = Some name })
+with_name g node name = changed g node (node_named name)
 
 -- one more argument of an instantiation
 abbrev pub given_too : Form → List ℕ → ℕ → Form
 given_too (instantiation p arguments) name value = instantiation p (with_named arguments name value)
 given_too f name value = f
 
+-- a node with one more argument, if it is an instantiation
+abbrev pub node_given : List ℕ → ℕ → Node → Node
+node_given name value n = record n { form = given_too n.form name value }
+
 abbrev pub with_argument : Parts → ℕ → List ℕ → ℕ → Parts
-with_argument g node name value = changed g node (λ n. record n { form = given_too n.form name value })
+with_argument g node name value = changed g node (node_given name value)
 
 -- a package whose types were copied in, which made this table
 abbrev pub with_package : Parts → Key → PackageParts → List Entry → Parts

@@ -1,5 +1,5 @@
 -- Nodes as a graph holds them.
-use Rattle.std.specs.Prelude.{◌≡◌, ℕ, List, [], Some, None, unwrap_or, length, slice_get, slice_set}
+use Rattle.std.specs.Prelude.{◌≡◌, ◌-◌, ℕ, List, [], Some, None, unwrap_or, length, slice_get, slice_set, Vec, vec_len, vec_capacity}
 use Rattle.wac_graph_types.specs.Scope.{Named, look_up}
 use Rattle.wac_graph.specs.Node.{Node, arguments_in}
 use Rattle.wac_graph.specs.Graph.{alias_in}
@@ -8,6 +8,10 @@ use Rattle.wac_graph.specs.Graph.{alias_in}
 pub record NodeList : Type 0 where
   pub items : List Node
   pub room : ℕ
+
+-- how many more elements fit without more memory
+abbrev pub room_in : {X Z : Type 0} → Vec X Z → ℕ
+room_in v = vec_capacity v - vec_len v
 
 -- the aliases of a node, by export
 abbrev pub aliases_at : List (Named ℕ) → ℕ → Named ℕ

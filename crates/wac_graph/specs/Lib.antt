@@ -14,3 +14,4 @@ pub mod Means
 pub mod Resources
 pub mod Packages
 pub mod Adds
+pub mod Laws

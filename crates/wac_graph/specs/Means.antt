@@ -1,5 +1,5 @@
 -- Where the resources of a graph come from, and what its kinds mean.
-use Rattle.std.specs.Prelude.{◌≡◌, ◌+◌, ◌-◌, ℕ, suc, List, [], ◌∷◌, Option, Some, None, ◌&&◌, cond, nat_le, nat_lt, take, length, slice_get}
+use Rattle.std.specs.Prelude.{◌≡◌, ◌+◌, ◌-◌, ℕ, suc, List, [], ◌∷◌, Option, Some, None, option_map, ◌&&◌, cond, nat_le, nat_lt, take, length, slice_get}
 use Rattle.wac_graph_types.specs.declared.kind.ItemKind.{ItemKind}
 use Rattle.wac_graph_types.specs.declared.entry.Entry.{Entry}
 use Rattle.wac_graph_types.specs.declared.entry.Entry.TheVariants as entries
@@ -7,6 +7,7 @@ use Rattle.wac_graph_types.specs.Entry.{children, label}
 use Rattle.wac_graph_types.specs.Meaning.{Meaning, node, of_kind, row, meaning, meaning_at, NamesBefore}
 use Rattle.wac_graph_types.specs.Meaning as tables
 use Rattle.wac_graph_types.specs.Package.{PackageParts}
+use Rattle.wac_graph_types.specs.Shape.{export_of}
 use Rattle.wac_graph.specs.Package.{Key, HeldPackage}
 use Rattle.wac_graph_copies.specs.Moved.{moved}
 use Rattle.wac_graph.specs.Graph.{Parts}
@@ -56,6 +57,11 @@ entry_means naming g i = entry_means_in naming g.packages g.types i
 -- what a kind means, under a naming of origins
 abbrev pub means : Naming → Parts → ItemKind → Meaning
 means naming g k = of_kind (entry_means naming g) k
+
+-- what was found under a name means what the kind's meaning exports under it
+abbrev pub MeansExport : Parts → ItemKind → List ℕ → Option ItemKind → Type 0
+MeansExport g k name found = (naming : Naming)
+    → option_map (means naming g) found ≡ export_of (means naming g k) name
 
 -- each kind of the old graph means in the new one what it meant
 abbrev pub KeepsKinds : Parts → Parts → Type 0

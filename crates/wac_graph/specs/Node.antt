@@ -1,5 +1,5 @@
 -- The parts of a node.
-use Rattle.std.specs.Prelude.{◌≡◌, ◌<◌, IsSome, ℕ, List, [], Option, Some, None, string_bytes, Bool, false, ◌&&◌, String, nat_eq}
+use Rattle.std.specs.Prelude.{◌≡◌, ◌<◌, IsSome, ℕ, List, [], Option, Some, None, option_map, string_bytes, Bool, false, ◌&&◌, String, nat_eq}
 use Rattle.std.specs.declared.alloc.Global.{Global}
 use Rattle.std.specs.Str.{bytes_eq}
 use Rattle.wac_graph_types.specs.Scope.{Named}
@@ -80,6 +80,10 @@ form_of (nodes.Import name) source arguments = import (string_bytes name)
 form_of nodes.Definition source arguments = definition
 form_of nodes.Alias source arguments = alias_from source
 form_of (nodes.Instantiation p) source arguments = instantiation p.0 arguments
+
+-- a node of this form
+abbrev pub held_node : Form → ItemKind → Option (String Global) → Node
+held_node form kind name = record { form = form; kind = kind; name = option_map string_bytes name }
 
 -- an alias alone has a source, and an instantiation alone has arguments
 abbrev pub IsHeldAs : NodeKind → Option (NodeId × String Global) → Named ℕ → Type 0

@@ -49,3 +49,7 @@ contents_in naming g p = contents_by (λ k. means naming g k) p.world p.instance
 -- the package that was copied in has in the new graph the contents that it was supplied with
 abbrev pub HoldsContents : Parts → Parts → Key → PackageParts → Type 0
 HoldsContents old new key p = (naming : Naming) → contents_in naming new (moved_package (length old.types) key p) ≡ contents_of naming key p
+
+-- a package has in the new graph the contents that it had
+abbrev pub KeepsContents : Parts → Parts → HeldPackage → Type 0
+KeepsContents old new p = (naming : Naming) → contents_in naming new p ≡ contents_in naming old p

@@ -1,26 +1,25 @@
 //! The graph of a composition.
-ghost use Rattle.std.specs.Prelude.{◌≡◌, ◌+◌, ◌<◌, ℕ, [], ◌∷◌, ◌++◌, OnOk, OnErr, IfOk, IfSome, IsSome, None, Some, option_map, option_and_then, unwrap_or, length, slice_get, string_bytes};
+ghost use Rattle.std.specs.Prelude.{◌≡◌, ◌+◌, ◌<◌, ℕ, [], ◌∷◌, ◌++◌, OnOk, OnErr, IfOk, IfSome, IsSome, None, Some, option_map, option_and_then, length, slice_get, string_bytes};
 ghost use Rattle.std.specs.List.{AllByRecursion};
 ghost use Rattle.wac_graph_types.specs.Entry.{children};
 ghost use Rattle.wac_graph_types.specs.Growth.{KeepsMeanings, KeepsNames};
 ghost use Rattle.wac_graph_types.specs.Meaning.{EachKind};
+ghost use Rattle.wac_graph_types.specs.Names.{name_in_place};
 ghost use Rattle.wac_graph_types.specs.Package.{IsPackage};
-ghost use Rattle.wac_graph_types.specs.Readings.{kind_exports, world_imports};
+ghost use Rattle.wac_graph_types.specs.Readings.{kind_exports};
 ghost use Rattle.wac_graph_types.specs.Scope.{look_up, IsFresh};
-ghost use Rattle.wac_graph_types.specs.Shape.{export_of};
 ghost use Rattle.wac_graph_types.specs.Table.{IsTable, EachEntryNamed, Names as NamesEntry};
 ghost use Rattle.wac_graph_types.specs.declared.entry.Entry.TheVariants as entries;
-ghost use Rattle.wac_graph.specs.Adds.{Adds, AddsPackage};
-ghost use Rattle.wac_graph.specs.Aliased.{IsAliased};
+ghost use Rattle.wac_graph.specs.Adds.{Adds, AddsPackage, AddsInstance};
+ghost use Rattle.wac_graph.specs.Aliased.{AddsAlias, IsAliased, alias_number};
 ghost use Rattle.wac_graph_copies.specs.Copied.{IsGrown, IsGrownBy, MeansTheSame};
-ghost use Rattle.wac_graph.specs.Graph.{empty, with_import, with_definition, with_export, with_alias, with_instantiation, with_package, with_name, with_argument, export_kind as kind_exported, import_kind as kind_imported, parameter_kind, arguments_of, alias_in, package_of};
-ghost use Rattle.wac_graph.specs.Means.{means as meaning_of, KeepsKinds, EntriesMean, OriginsApart};
+ghost use Rattle.wac_graph.specs.Graph.{empty, with_import, with_definition, with_export, with_package, with_name, with_argument, export_kind as kind_exported, import_kind as kind_imported, parameter_kind, arguments_of, alias_in, package_of, read_form, import_in_place};
+ghost use Rattle.wac_graph.specs.Means.{MeansExport, KeepsKinds, EntriesMean, OriginsApart};
 ghost use Rattle.wac_graph.specs.Node.{sort_in, sort_of, import_in, source_in, HasPackage};
 ghost use Rattle.wac_graph.specs.Numbers.{numbers};
-ghost use Rattle.wac_graph.specs.Origin.{Naming};
 ghost use Rattle.wac_graph.specs.Package.{key_of, package_keyed, IsHeld};
 ghost use Rattle.wac_graph.specs.Readings.{held_of};
-ghost use Rattle.wac_graph.specs.Sound.{IsSound, NamesNodes, name_in};
+ghost use Rattle.wac_graph.specs.Sound.{IsSound, NamesNodes};
 
 use crate::held_nodes::HeldNodes;
 use crate::ids::{Nodes, Packages};
@@ -55,7 +54,7 @@ pub struct CompositionGraph {
 
 impl Model for CompositionGraph {
     ghost use Rattle.std.specs.Coded.{codes};
-    ghost use Rattle.wac_graph.specs.Graph.{Parts};
+    ghost use Rattle.wac_graph.specs.Graph.{Parts, graph_of};
     ghost use Rattle.wac_graph.specs.Sound.{IsSound};
     ghost use Rattle.wac_graph_types.specs.contracts.entry.Entry as entry;
 
@@ -63,9 +62,9 @@ impl Model for CompositionGraph {
 
     ghost coded = { Prim.hlevel (codes, entry.the_row.coded) };
 
-    ghost view = { λ g. record { types = g.types; packages = g.packages; nodes = g.nodes.items; imports = g.imports; exports = g.exports } };
+    ghost view = { λ g. graph_of g.types g.packages g.nodes.items g.imports g.exports };
 
-    ghost invariant = { λ g. IsSound (record { types = g.types; packages = g.packages; nodes = g.nodes.items; imports = g.imports; exports = g.exports }) };
+    ghost invariant = { λ g. IsSound (graph_of g.types g.packages g.nodes.items g.imports g.exports) };
 }
 
 // Written out, so that a crate above, which may drop a graph, need not prove how its parts are dropped.
@@ -277,7 +276,7 @@ impl CompositionGraph {
     /// The node that is the alias of an export of an instance: the one that exists, else a new one.
     pub fn add_alias(&mut self, node: NodeId, export: &str) -> Result<NodeId, AllocError>
         requires { IsSome (kind_exported self.old node.0 export.now) }
-        ensures number { IfOk result (λ id. unwrap_or (alias_in self.old.nodes node.0 export.now) (length self.old.nodes) ≡ id.0) }
+        ensures number { IfOk result (λ id. alias_number self.old node.0 export.now ≡ id.0) }
         ensures ok { OnOk result (IsAliased self.old self.new node.0 export.now) }
         ensures err { OnErr result (self.new ≡ self.old) }
     {
@@ -291,7 +290,7 @@ impl CompositionGraph {
         requires exported { IsSome (kind_exported self.old node.0 export.now) }
         requires new { alias_in self.old.nodes node.0 export.now ≡ None }
         ensures number { IfOk result (λ id. id.0 ≡ length self.old.nodes) }
-        ensures ok { OnOk result (IfSome (kind_exported self.old node.0 export.now) (λ k. self.new ≡ with_alias self.old node.0 export.now k)) }
+        ensures ok { OnOk result (AddsAlias self.old self.new node.0 export.now) }
         ensures err { OnErr result (self.new ≡ self.old) }
     {
         let kind = self.export_kind(node, export).unwrap();
@@ -304,7 +303,7 @@ impl CompositionGraph {
     pub fn add_instantiation(&mut self, package: PackageId) -> Result<NodeId, AllocError>
         requires { «package».0 < length self.old.packages }
         ensures number { IfOk result (λ id. id.0 ≡ length self.old.nodes) }
-        ensures ok { OnOk result (IfSome (slice_get self.old.packages «package».0) (λ p. self.new ≡ with_instantiation self.old «package».0 (ItemKind.Instance p.instance))) }
+        ensures ok { OnOk result (AddsInstance self.old self.new «package».0) }
         ensures err { OnErr result (self.new ≡ self.old) }
     {
         let instance = self.packages.get(package.0).instance;
@@ -359,7 +358,7 @@ impl CompositionGraph {
     /// What a node is.
     pub fn node(&self, id: NodeId) -> &NodeKind
         requires { id.0 < length self.now.nodes }
-        ensures node { option_map (λ n. sort_in n.form) (slice_get self.now.nodes id.0) ≡ Some (sort_of result.now) }
+        ensures node { read_form sort_in self.now id.0 ≡ Some (sort_of result.now) }
         ensures there { HasPackage (length self.now.packages) (sort_of result.now) }
     {
         self.nodes.at(id.0).node()
@@ -394,7 +393,7 @@ impl CompositionGraph {
     /// The name under which a node is imported.
     pub fn import_name(&self, id: NodeId) -> Option<&str>
         requires { id.0 < length self.now.nodes }
-        ensures { option_map (λ n. import_in n.form) (slice_get self.now.nodes id.0) ≡ Some (option_map (λ s. s.now) result) }
+        ensures { read_form import_in self.now id.0 ≡ Some (option_map (λ s. s.now) result) }
     {
         self.nodes.at(id.0).import_name()
     }
@@ -402,7 +401,7 @@ impl CompositionGraph {
     /// The instance and the name of its export, of a node that is an alias.
     pub fn alias_source(&self, id: NodeId) -> Option<(NodeId, &str)>
         requires { id.0 < length self.now.nodes }
-        ensures source { option_map (λ n. source_in n.form) (slice_get self.now.nodes id.0) ≡ Some (option_map (λ s. (s.0.0, s.1.now)) result) }
+        ensures source { read_form source_in self.now id.0 ≡ Some (option_map (λ s. (s.0.0, s.1.now)) result) }
         ensures earlier { IfSome result (λ s. s.0.0 < id.0) }
     {
         self.nodes.at(id.0).source()
@@ -497,7 +496,7 @@ impl CompositionGraph {
     /// The name of a package's import at a place. It is copied, so it can be passed to calls that change the graph.
     pub fn parameter_name(&self, id: PackageId, at: usize) -> Result<Option<String>, AllocError>
         requires { id.0 < length self.now.packages }
-        ensures { IfOk result (λ n. option_map string_bytes n ≡ option_map name_in (option_and_then (λ p. slice_get (world_imports self.now.types p.world.0) at) (slice_get self.now.packages id.0))) }
+        ensures { IfOk result (λ n. option_map string_bytes n ≡ import_in_place self.now id.0 at) }
     {
         let world = self.packages.get(id.0).world;
         self.types.import_name(self.alloc, world, at)
@@ -507,7 +506,7 @@ impl CompositionGraph {
     pub fn export(&self, kind: ItemKind, name: &str) -> Option<ItemKind>
         requires { NamesEntry self.now.types kind }
         ensures kind { result ≡ look_up name.now (kind_exports self.now.types kind) }
-        ensures means { (naming : Naming) → option_map (meaning_of naming self.now) result ≡ export_of (meaning_of naming self.now kind) name.now }
+        ensures means { MeansExport self.now kind name.now result }
         ensures named { IfSome result (NamesEntry self.now.types) }
     {
         self.types.export(kind, name)
@@ -515,7 +514,7 @@ impl CompositionGraph {
 
     /// The name of the export at a place. It is copied, so it can be passed to calls that change the graph.
     pub fn export_name(&self, kind: ItemKind, at: usize) -> Result<Option<String>, AllocError>
-        ensures { IfOk result (λ n. option_map string_bytes n ≡ option_map name_in (slice_get (kind_exports self.now.types kind) at)) }
+        ensures { IfOk result (λ n. option_map string_bytes n ≡ name_in_place at (kind_exports self.now.types kind)) }
     {
         self.types.export_name(self.alloc, kind, at)
     }

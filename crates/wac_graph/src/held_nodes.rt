@@ -1,7 +1,7 @@
 //! The nodes of a graph, and how their aliases are found.
 ghost use Rattle.std.specs.Prelude.{◌≡◌, ◌+◌, ◌<◌, [], ◌∷◌, ◌++◌, None, Some, OnOk, OnErr, IsSome, option_map, option_and_then, length, slice_get, string_bytes};
 ghost use Rattle.wac_graph_types.specs.Scope.{IsFresh};
-ghost use Rattle.wac_graph.specs.Graph.{alias_in, given_too, plain_node};
+ghost use Rattle.wac_graph.specs.Graph.{alias_in, node_given, node_named, plain_node};
 ghost use Rattle.wac_graph.specs.HeldNodes.{arguments_at, changed_in};
 ghost use Rattle.wac_graph.specs.Node.{alias, package_in, source_in};
 
@@ -20,12 +20,12 @@ pub struct HeldNodes {
 }
 
 impl Model for HeldNodes {
-    ghost use Rattle.std.specs.Prelude.{◌-◌, min, vec_len, vec_capacity};
-    ghost use Rattle.wac_graph.specs.HeldNodes.{NodeList, AreIndexed};
+    ghost use Rattle.std.specs.Prelude.{min};
+    ghost use Rattle.wac_graph.specs.HeldNodes.{NodeList, AreIndexed, room_in};
 
     ghost Value = { NodeList };
 
-    ghost view = { λ n. record { items = n.nodes.items; room = min (vec_capacity n.nodes - vec_len n.nodes) (vec_capacity n.aliases - vec_len n.aliases) } };
+    ghost view = { λ n. record { items = n.nodes.items; room = min (room_in n.nodes) (room_in n.aliases) } };
 
     ghost invariant = { λ n. AreIndexed n.nodes.items n.aliases.items };
 }
@@ -122,7 +122,7 @@ impl HeldNodes {
     ) -> Result<(), AllocError>
         requires instance { IsSome (option_and_then (λ n. package_in n.form) (slice_get self.old.items number)) }
         requires open { IsFresh import.now (arguments_at self.old.items number) }
-        ensures ok { OnOk result (self.new.items ≡ changed_in self.old.items number (λ n. record n { form = given_too n.form import.now value.0 })) }
+        ensures ok { OnOk result (self.new.items ≡ changed_in self.old.items number (node_given import.now value.0)) }
         ensures err { OnErr result (self.new.items ≡ self.old.items) }
     {
         self.nodes[number].set_argument(alloc, import, value)?;
@@ -132,7 +132,7 @@ impl HeldNodes {
     /// Names a node.
     pub fn set_name(&mut self, number: usize, name: String)
         requires { number < length self.old.items }
-        ensures { self.new.items ≡ changed_in self.old.items number (λ n. record n { name = Some (string_bytes name) }) }
+        ensures { self.new.items ≡ changed_in self.old.items number (node_named (string_bytes name)) }
     {
         self.nodes[number].set_name(name);
     }

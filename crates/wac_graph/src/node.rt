@@ -40,12 +40,11 @@ pub struct Node {
 }
 
 impl Model for Node {
-    ghost use Rattle.std.specs.Prelude.{option_map, string_bytes};
-    ghost use Rattle.wac_graph.specs.Node.{Node as NodeParts, form_of, IsHeldAs};
+    ghost use Rattle.wac_graph.specs.Node.{Node as NodeParts, held_node, form_of, IsHeldAs};
 
     ghost Value = { NodeParts };
 
-    ghost view = { λ n. record { form = form_of n.node n.source n.arguments; kind = n.kind; name = option_map string_bytes n.name } };
+    ghost view = { λ n. held_node (form_of n.node n.source n.arguments) n.kind n.name };
 
     ghost invariant = { λ n. IsHeldAs n.node n.source n.arguments };
 }

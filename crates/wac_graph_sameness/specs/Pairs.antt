@@ -13,6 +13,14 @@ Agree means pairs = AllByRecursion (λ p. means p.0 ≡ means p.1) pairs
 abbrev pub Follow : List (ℕ × ℕ) → List (ℕ × ℕ) → Type 0
 Follow pairs others = (means : ℕ → Meaning) → Agree means pairs → Agree means others
 
+-- what agrees on these pairs and on one more agrees on the others
+abbrev pub FollowWith : ℕ → ℕ → List (ℕ × ℕ) → List (ℕ × ℕ) → Type 0
+FollowWith i j pairs others = (means : ℕ → Meaning) → Agree means pairs → means i ≡ means j → Agree means others
+
+-- what agrees on these pairs gives two entries one meaning
+abbrev pub AreMadeOne : List (ℕ × ℕ) → ℕ → ℕ → Type 0
+AreMadeOne pairs i j = (means : ℕ → Meaning) → Agree means pairs → means i ≡ means j
+
 -- each pair stays in its place
 abbrev pub Keeps : List (ℕ × ℕ) → List (ℕ × ℕ) → Type 0
 Keeps old new = (k : ℕ) (p : ℕ × ℕ) → slice_get old k ≡ Some p → slice_get new k ≡ Some p

@@ -1,7 +1,7 @@
 //! The comparison of kinds, pair by pair.
-ghost use Rattle.std.specs.Prelude.{◌≡◌, ◌≢◌, ◌<◌, ℕ, IsTrue, ◌↔◌, IfOk, OnOk, length};
+ghost use Rattle.std.specs.Prelude.{◌≡◌, ◌<◌, ℕ, IsTrue, ◌↔◌, IfOk, OnOk, length};
 ghost use Rattle.wac_graph_types.specs.Entry.{children};
-ghost use Rattle.wac_graph_types.specs.Meaning.{IsEarlier, IsOneToOne, IsResource, meaning, meaning_at, of_child, row};
+ghost use Rattle.wac_graph_types.specs.Meaning.{Apart, IsEarlier, IsOneToOne, UnderOrigins, of_child, of_kind, row};
 ghost use Rattle.wac_graph_types.specs.Shape.{entry_over};
 ghost use Rattle.wac_graph_types.specs.Table.{IsTable, Names};
 ghost use Rattle.wac_graph_sameness.specs.Pairs.{Agree, AreAlikeOver, Reduces};
@@ -69,7 +69,7 @@ fn add_parts(pairs: &mut Pairs, first: &Entry, second: &Entry) -> Result<bool, U
 /// Whether two entries of which not both are one resource may mean the same, where the pairs that have to do so for it
 /// are added.
 fn add_entries(pairs: &mut Pairs, first: &Entry, second: &Entry) -> Result<bool, Unanswered>
-    ensures { IfOk result (λ same. (p q : ℕ) → (IsResource first.now → IsResource second.now → p ≢ q)
+    ensures { IfOk result (λ same. (p q : ℕ) → Apart p q first.now second.now
         → Reduces (λ means. entry_over means p first.now ≡ entry_over means q second.now) same pairs.old pairs.new) }
 {
     if !same_label(first, second) {
@@ -104,8 +104,7 @@ fn add_pair(
 /// Whether the entries of each pair mean the same. The pairs that they need go last, each once.
 fn all_same(entries: &[Entry], pairs: &mut Pairs) -> Result<bool, Unanswered>
     requires { IsEarlier entries.now }
-    ensures { IfOk result (λ same. (origins : ℕ → ℕ) → IsOneToOne entries.now origins
-        → (IsTrue same ↔ Agree (meaning_at origins entries.now) pairs.old)) }
+    ensures { IfOk result (λ same. UnderOrigins entries.now (λ mean. IsTrue same ↔ Agree mean pairs.old)) }
 {
     for at in 0..usize::MAX {
         match pairs.at(at) {
@@ -128,8 +127,7 @@ fn same_by_pairs(
     b: ItemKind,
 ) -> Result<bool, Unanswered>
     requires { IsEarlier entries.now }
-    ensures { IfOk result (λ same. (origins : ℕ → ℕ) → IsOneToOne entries.now origins
-        → (IsTrue same ↔ (meaning origins entries.now a ≡ meaning origins entries.now b))) }
+    ensures { IfOk result (λ same. UnderOrigins entries.now (λ mean. IsTrue same ↔ (of_kind mean a ≡ of_kind mean b))) }
 {
     let mut pairs = Pairs::new(alloc);
     if !add_kinds(&mut pairs, Some(a), Some(b))? {
@@ -156,8 +154,7 @@ pub fn same(alloc: Global, types: &Types, a: ItemKind, b: ItemKind) -> bool
     requires table { IsTable types.now }
     requires first { Names types.now a }
     requires second { Names types.now b }
-    ensures { (origins : ℕ → ℕ) → IsOneToOne types.now origins
-        → (IsTrue result ↔ (meaning origins types.now a ≡ meaning origins types.now b)) }
+    ensures { UnderOrigins types.now (λ mean. IsTrue result ↔ (of_kind mean a ≡ of_kind mean b)) }
 {
     if is_shallow(a) || is_shallow(b) {
         return types.same(a, b);

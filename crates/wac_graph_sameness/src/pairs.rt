@@ -1,7 +1,6 @@
 //! Pairs of entries that have to mean the same.
-ghost use Rattle.std.specs.Prelude.{◌≡◌, [], ℕ, IfOk, IfSome, OnOk, slice_get, true};
-ghost use Rattle.wac_graph_types.specs.Meaning.{Meaning};
-ghost use Rattle.wac_graph_sameness.specs.Pairs.{Agree, Reduces};
+ghost use Rattle.std.specs.Prelude.{◌≡◌, [], IfOk, IfSome, OnOk, slice_get, true};
+ghost use Rattle.wac_graph_sameness.specs.Pairs.{AreMadeOne, Follow, FollowWith, Reduces};
 
 use indexmap::IndexMap;
 use std::alloc::Global;
@@ -34,14 +33,14 @@ impl Model for Pairs {
 
 /// The leader of an entry, if it has one.
 fn leader(leaders: &IndexMap<usize, usize>, entry: usize) -> Option<usize>
-    ensures { IfSome result (λ leader. (means : ℕ → Meaning) → Agree means leaders.now.entries → means entry ≡ means leader) }
+    ensures { IfSome result (λ leader. AreMadeOne leaders.now.entries entry leader) }
 {
     leaders.get(&entry).copied()
 }
 
 /// Gives an entry a leader.
 fn lead(leaders: &mut IndexMap<usize, usize>, entry: usize, leader: usize) -> Result<(), Unanswered>
-    ensures { (means : ℕ → Meaning) → Agree means leaders.old.entries → means entry ≡ means leader → Agree means leaders.new.entries }
+    ensures { FollowWith entry leader leaders.old.entries leaders.new.entries }
 {
     match leaders.insert(entry, leader) {
         Ok(_) => Ok(()),
@@ -51,8 +50,8 @@ fn lead(leaders: &mut IndexMap<usize, usize>, entry: usize, leader: usize) -> Re
 
 /// The root of the class of an entry. Entries on the way to it come nearer to it, so that ways stay short.
 fn root(leaders: &mut IndexMap<usize, usize>, entry: usize) -> Result<usize, Unanswered>
-    ensures kept { (means : ℕ → Meaning) → Agree means leaders.old.entries → Agree means leaders.new.entries }
-    ensures root { IfOk result (λ root. (means : ℕ → Meaning) → Agree means leaders.old.entries → means entry ≡ means root) }
+    ensures kept { Follow leaders.old.entries leaders.new.entries }
+    ensures root { IfOk result (λ root. AreMadeOne leaders.old.entries entry root) }
 {
     let mut at = entry;
     for _ in 0..usize::MAX {

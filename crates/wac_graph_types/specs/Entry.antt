@@ -70,6 +70,11 @@ import_children is = map (λ e. (import (string_bytes e.0), Some e.1)) is
 abbrev pub export_children : List (String Global × ItemKind) → List (Slot × Option ItemKind)
 export_children es = map (λ e. (export (string_bytes e.0), Some e.1)) es
 
+-- what a world imports, and then what it exports
+abbrev pub extern_children : List (String Global × ItemKind) → List (String Global × ItemKind)
+    → List (Slot × Option ItemKind)
+extern_children imports exports = import_children imports ++ export_children exports
+
 -- what a defined type is apart from the kinds in it, and these
 abbrev pub defined_view : DefinedType → Plain × List (Slot × Option ItemKind)
 defined_view (defined.Tuple ts) = (tuple, tuple_children ts.items)

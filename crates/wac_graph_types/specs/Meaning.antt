@@ -1,5 +1,5 @@
 -- What a kind means, with no table.
-use Rattle.std.specs.Prelude.{◌≡◌, ℕ, suc, ◌<◌, Option, Some, None, IfSome, List, [], ◌∷◌, ◌++◌, length, slice_get, slice_index_or}
+use Rattle.std.specs.Prelude.{◌≡◌, ◌≢◌, ℕ, suc, ◌<◌, Option, Some, None, IfSome, List, [], ◌∷◌, ◌++◌, length, slice_get, slice_index_or}
 use Rattle.std.specs.List.{AllByRecursion}
 use Rattle.wac_graph_types.specs.declared.kind.ItemKind.{ItemKind}
 use Rattle.wac_graph_types.specs.declared.entry.Entry.{Entry}
@@ -65,6 +65,14 @@ IsResource _ = ⊥
 abbrev pub IsOneToOne : List Entry → (ℕ → ℕ) → Type 0
 IsOneToOne es origins = (i j : ℕ) (d e : Entry) → slice_get es i ≡ Some d → slice_get es j ≡ Some e → IsResource d → IsResource e → origins i ≡ origins j → i ≡ j
 
+-- this holds of what the table's entries mean, whichever origins distinguish its resources
+abbrev pub UnderOrigins : List Entry → ((ℕ → Meaning) → Type 0) → Type 0
+UnderOrigins es P = (origins : ℕ → ℕ) → IsOneToOne es origins → P (meaning_at origins es)
+
+-- of two entries that are both resources the origins differ
+abbrev pub Apart : ℕ → ℕ → Entry → Entry → Type 0
+Apart p q d e = IsResource d → IsResource e → p ≢ q
+
 -- a kind names an entry before this number, if any
 abbrev pub NamesBefore : ℕ → ItemKind → Type 0
 NamesBefore n k = IfSome (named_by k) (λ i. i < n)
@@ -90,4 +98,4 @@ IsEarlier es = EarlierFrom 0 es
 
 -- two entries mean the same, whatever the origins are
 abbrev pub Alike : List Entry → ℕ → ℕ → Type 0
-Alike es i j = (origins : ℕ → ℕ) → IsOneToOne es origins → meaning_at origins es i ≡ meaning_at origins es j
+Alike es i j = UnderOrigins es (λ means. means i ≡ means j)

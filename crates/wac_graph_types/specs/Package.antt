@@ -1,6 +1,7 @@
 -- What a package is tested for.
-use Rattle.std.specs.Prelude.{◌≡◌, ℕ, IsSome, List, length, slice_get, option_and_then}
+use Rattle.std.specs.Prelude.{◌≡◌, ℕ, IsSome, List, length, option_and_then, String}
 use Rattle.std.specs.List.{AllByRecursion}
+use Rattle.std.specs.declared.alloc.Global.{Global}
 use Rattle.wac_graph_types.specs.declared.kind.ItemKind.{ItemKind}
 use Rattle.wac_graph_types.specs.declared.kind.ItemKind.TheVariants as kinds
 use Rattle.wac_graph_types.specs.declared.kind.«Type».TheVariants as types
@@ -9,15 +10,16 @@ use Rattle.wac_graph_types.specs.declared.kind.InterfaceId.{InterfaceId}
 use Rattle.wac_graph_types.specs.declared.entry.Entry.{Entry}
 use Rattle.wac_graph_types.specs.declared.package.PackageError.{PackageError}
 use Rattle.wac_graph_types.specs.declared.package.PackageError.TheVariants as errors
-use Rattle.wac_graph_types.specs.Entry.{children}
-use Rattle.wac_graph_types.specs.Readings.{as_interface, interface_exports, world_exports}
+use Rattle.wac_graph_types.specs.Entry.{children, export_children}
+use Rattle.wac_graph_types.specs.Names.{by_name}
+use Rattle.wac_graph_types.specs.Readings.{interface_in, interface_exports, world_exports}
 use Rattle.wac_graph_types.specs.Shape.{items_mean}
-use Rattle.wac_graph_types.specs.Meaning.{meaning_at, IsOneToOne, IsEarlier, NamesBefore, EachKind}
+use Rattle.wac_graph_types.specs.Meaning.{Meaning, row, meaning_at, IsOneToOne, IsEarlier, NamesBefore, EachKind}
 use Rattle.wac_graph_types.specs.Table.{IsOfSort}
 
 -- an interface type's interface has an id
 abbrev pub HasId : List Entry → ItemKind → Type 0
-HasId es (kinds.Ty (types.Interface id)) = IsSome (option_and_then (λ i. i.id) (option_and_then as_interface (slice_get es id.0)))
+HasId es (kinds.Ty (types.Interface id)) = IsSome (option_and_then (λ i. i.id) (interface_in es id.0))
 HasId es _ = Unit {0}
 
 -- the parts of a package
@@ -26,6 +28,15 @@ pub record PackageParts : Type 0 where
   pub world : WorldId
   pub instance : InterfaceId
   pub definitions : List (List ℕ × ItemKind)
+
+-- the parts of a package whose definitions are a map's
+abbrev pub parts_of : List Entry → WorldId → InterfaceId → List (String Global × ItemKind) → PackageParts
+parts_of types world instance definitions = record {
+  types = types;
+  world = world;
+  instance = instance;
+  definitions = by_name definitions;
+}
 
 -- each kind in an entry
 abbrev pub EachInEntries : (ItemKind → Type 0) → List Entry → Type 0
@@ -66,6 +77,10 @@ pub record HaveIds (es : List Entry) (ds : List (List ℕ × ItemKind)) : Type 0
 -- the instance and the world export the same names with the same meanings, in order
 abbrev pub ExportsAgree : (ℕ → ℕ) → List Entry → WorldId → InterfaceId → Type 0
 ExportsAgree origins es world instance = items_mean (meaning_at origins es) (interface_exports es instance.0) ≡ items_mean (meaning_at origins es) (world_exports es world.0)
+
+-- the exports of two maps have equal names and meanings, one by one
+abbrev pub SameExterns : List (String Global × ItemKind) → List (String Global × ItemKind) → (ℕ → Meaning) → Type 0
+SameExterns first second means = row means (export_children first) ≡ row means (export_children second)
 
 abbrev pub SameExports : List Entry → WorldId → InterfaceId → Type 0
 SameExports es world instance = (origins : ℕ → ℕ) → IsOneToOne es origins → ExportsAgree origins es world instance

@@ -33,6 +33,14 @@ abbrev pub as_world : Entry → Option World
 as_world (entries.World w) = Some w
 as_world _ = None
 
+-- the interface of a number, and the world
+
+abbrev pub interface_in : List Entry → ℕ → Option Interface
+interface_in es n = option_and_then as_interface (slice_get es n)
+
+abbrev pub world_in : List Entry → ℕ → Option World
+world_in es n = option_and_then as_world (slice_get es n)
+
 abbrev pub is_resource : Entry → Bool
 is_resource (entries.Resource r) = true
 is_resource _ = false
@@ -40,13 +48,13 @@ is_resource _ = false
 -- what an interface or world exports, and what a world imports, by name and in order
 
 abbrev pub interface_exports : List Entry → ℕ → Named ItemKind
-interface_exports es n = elim (option_and_then as_interface (slice_get es n)) [ None ↦ [] | Some i ↦ by_name i.exports.entries ]
+interface_exports es n = elim (interface_in es n) [ None ↦ [] | Some i ↦ by_name i.exports.entries ]
 
 abbrev pub world_exports : List Entry → ℕ → Named ItemKind
-world_exports es n = elim (option_and_then as_world (slice_get es n)) [ None ↦ [] | Some w ↦ by_name w.exports.entries ]
+world_exports es n = elim (world_in es n) [ None ↦ [] | Some w ↦ by_name w.exports.entries ]
 
 abbrev pub world_imports : List Entry → ℕ → Named ItemKind
-world_imports es n = elim (option_and_then as_world (slice_get es n)) [ None ↦ [] | Some w ↦ by_name w.imports.entries ]
+world_imports es n = elim (world_in es n) [ None ↦ [] | Some w ↦ by_name w.imports.entries ]
 
 -- what an interface, instance, world or component exports
 abbrev pub kind_exports : List Entry → ItemKind → Named ItemKind

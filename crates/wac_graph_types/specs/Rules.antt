@@ -39,3 +39,8 @@ abbrev mutual
 -- no two of the origins that occur in the meanings get one number
 abbrev pub KeepsApart : (ℕ → ℕ) → Meaning → Meaning → Type 0
 KeepsApart f a b = (i j : ℕ) → Occurs i a ⊎ Occurs i b → Occurs j a ⊎ Occurs j b → f i ≡ f j → i ≡ j
+
+-- a verdict on two meanings stays the same when the origins that occur in them are renamed one to one
+abbrev pub IgnoresRenaming : (Meaning → Meaning → Option Reason) → Type 0
+IgnoresRenaming verdict = (f : ℕ → ℕ) (a b : Meaning) → KeepsApart f a b
+    → verdict (renamed f a) (renamed f b) ≡ verdict a b

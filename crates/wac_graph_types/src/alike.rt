@@ -1,7 +1,7 @@
 //! Whether two kinds mean the same.
-ghost use Rattle.std.specs.Prelude.{option_map, string_bytes, ◌≡◌, ◌≢◌, ℕ, ◌<◌, length, IsTrue, ◌↔◌, IfSome};
+ghost use Rattle.std.specs.Prelude.{option_map, string_bytes, ◌≡◌, ℕ, ◌<◌, length, IsTrue, ◌↔◌, IfSome};
 ghost use Rattle.wac_graph_types.specs.Entry.{label, defined_label};
-ghost use Rattle.wac_graph_types.specs.Meaning.{IsEarlier, IsOneToOne, IsResource, NamesBefore, meaning, meaning_at, of_child};
+ghost use Rattle.wac_graph_types.specs.Meaning.{Apart, IsEarlier, NamesBefore, UnderOrigins, of_child, of_kind};
 ghost use Rattle.wac_graph_types.specs.Pairs.{AreAlike, Holds};
 
 use crate::entry::{DefinedType, Entry};
@@ -43,7 +43,7 @@ impl DefinedType {
 
 /// Whether two entries are alike apart from the kinds in them. No two resources are.
 pub fn same_label(first: &Entry, second: &Entry) -> bool
-    ensures { (p q : ℕ) → (IsResource first.now → IsResource second.now → p ≢ q) → (IsTrue result ↔ (label p first.now ≡ label q second.now)) }
+    ensures { (p q : ℕ) → Apart p q first.now second.now → (IsTrue result ↔ (label p first.now ≡ label q second.now)) }
 {
     match (first, second) {
         (Entry::Defined(a), Entry::Defined(b)) => a.same_shape(b),
@@ -62,7 +62,7 @@ fn same_kind(entries: &[Entry], found: &mut Pairs, a: Option<ItemKind>, b: Optio
     requires first { IfSome a (NamesBefore (length entries.now)) }
     requires second { IfSome b (NamesBefore (length entries.now)) }
     requires found { AreAlike entries.now found.old }
-    ensures same { (origins : ℕ → ℕ) → IsOneToOne entries.now origins → (IsTrue result ↔ (of_child (meaning_at origins entries.now) a ≡ of_child (meaning_at origins entries.now) b)) }
+    ensures same { UnderOrigins entries.now (λ mean. IsTrue result ↔ (of_child mean a ≡ of_child mean b)) }
     ensures found { AreAlike entries.now found.new }
 {
     match (a, b) {
@@ -89,7 +89,7 @@ fn same_at(entries: &[Entry], found: &mut Pairs, i: usize, j: usize) -> bool
     requires first { i < length entries.now }
     requires second { j < length entries.now }
     requires found { AreAlike entries.now found.old }
-    ensures same { (origins : ℕ → ℕ) → IsOneToOne entries.now origins → (IsTrue result ↔ (meaning_at origins entries.now i ≡ meaning_at origins entries.now j)) }
+    ensures same { UnderOrigins entries.now (λ mean. IsTrue result ↔ (mean i ≡ mean j)) }
     ensures found { AreAlike entries.now found.new }
     ensures added { IsTrue result → (i ≡ j → ⊥) → Holds found.new i j }
     ensures known { Holds found.old i j → found.new ≡ found.old }
@@ -132,7 +132,7 @@ pub(crate) fn same_child(entries: &[Entry], a: Option<ItemKind>, b: Option<ItemK
     requires earlier { IsEarlier entries.now }
     requires first { IfSome a (NamesBefore (length entries.now)) }
     requires second { IfSome b (NamesBefore (length entries.now)) }
-    ensures { (origins : ℕ → ℕ) → IsOneToOne entries.now origins → (IsTrue result ↔ (of_child (meaning_at origins entries.now) a ≡ of_child (meaning_at origins entries.now) b)) }
+    ensures { UnderOrigins entries.now (λ mean. IsTrue result ↔ (of_child mean a ≡ of_child mean b)) }
 {
     let mut found = Pairs::new();
     same_kind(entries, &mut found, a, b)
@@ -143,7 +143,7 @@ pub fn same(entries: &[Entry], a: ItemKind, b: ItemKind) -> bool
     requires earlier { IsEarlier entries.now }
     requires first { NamesBefore (length entries.now) a }
     requires second { NamesBefore (length entries.now) b }
-    ensures { (origins : ℕ → ℕ) → IsOneToOne entries.now origins → (IsTrue result ↔ (meaning origins entries.now a ≡ meaning origins entries.now b)) }
+    ensures { UnderOrigins entries.now (λ mean. IsTrue result ↔ (of_kind mean a ≡ of_kind mean b)) }
 {
     same_child(entries, Some(a), Some(b))
 }

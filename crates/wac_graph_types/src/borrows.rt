@@ -1,9 +1,10 @@
 //! Whether an entry contains a borrow, from what is known of those before it.
-ghost use Rattle.std.specs.Prelude.{◌≡◌, ℕ, List, map};
+ghost use Rattle.std.specs.Prelude.{◌≡◌, ℕ};
+ghost use Rattle.wac_graph_types.specs.Borrows.{SaysBorrow};
 ghost use Rattle.wac_graph_types.specs.Kind.{form};
-ghost use Rattle.wac_graph_types.specs.Meaning.{Meaning, look, of_child, over};
+ghost use Rattle.wac_graph_types.specs.Meaning.{look, of_child, over};
 ghost use Rattle.wac_graph_types.specs.Readings.{is_resource as resource_entry};
-ghost use Rattle.wac_graph_types.specs.Shape.{contains_borrow as has_borrow, is_borrow_form};
+ghost use Rattle.wac_graph_types.specs.Shape.{is_borrow_form};
 
 use crate::entry::Entry;
 use crate::kind::{ItemKind, ValueType};
@@ -28,7 +29,7 @@ fn is_resource(entry: &Entry) -> bool
 
 /// What is known of the entry of a number. What names no entry contains nothing.
 fn is_known(known: &[bool], number: usize) -> bool
-    ensures { (ms : List Meaning) → known.now ≡ map has_borrow ms → result ≡ has_borrow (look ms number) }
+    ensures { SaysBorrow known.now (λ ms. look ms number) result }
 {
     match known.get(number) {
         Some(borrow) => *borrow,
@@ -38,7 +39,7 @@ fn is_known(known: &[bool], number: usize) -> bool
 
 /// Whether a kind in an entry contains a borrow.
 pub(crate) fn child_has_borrow(known: &[bool], child: Option<ItemKind>) -> bool
-    ensures { (ms : List Meaning) → known.now ≡ map has_borrow ms → result ≡ has_borrow (of_child (look ms) child) }
+    ensures { SaysBorrow known.now (λ ms. of_child (look ms) child) result }
 {
     match child {
         None => false,
@@ -56,7 +57,7 @@ pub(crate) fn child_has_borrow(known: &[bool], child: Option<ItemKind>) -> bool
 
 /// Whether an entry contains a borrow. What a resource is an alias of doesn't count.
 pub(crate) fn entry_has_borrow(known: &[bool], entry: &Entry) -> bool
-    ensures { (origins : ℕ → ℕ) (ms : List Meaning) → known.now ≡ map has_borrow ms → result ≡ has_borrow (over origins ms entry.now) }
+    ensures { (origins : ℕ → ℕ) → SaysBorrow known.now (λ ms. over origins ms entry.now) result }
 {
     if is_resource(entry) {
         return false;

@@ -1,6 +1,6 @@
 //! The kinds in an entry, one by one.
-ghost use Rattle.std.specs.Prelude.{◌≡◌, [], ◌∷◌, ◌++◌, ◌<◌, ◌^◌, IsTrue, ◌↔◌, length, slice_get, option_map, string_bytes};
-ghost use Rattle.wac_graph_types.specs.Entry.{children, child_view, slot_of, value_children, case_children, name_children, tuple_children, use_children, import_children, export_children, named_result_children, result_children, sort_of};
+ghost use Rattle.std.specs.Prelude.{◌≡◌, [], ◌∷◌, ◌<◌, ◌^◌, IsTrue, ◌↔◌, length, slice_get, option_map, string_bytes};
+ghost use Rattle.wac_graph_types.specs.Entry.{children, child_view, slot_of, value_children, case_children, name_children, tuple_children, use_children, import_children, export_children, extern_children, named_result_children, result_children, sort_of};
 
 use crate::entry::{
     DefinedType, Entry, FuncResults, FuncType, Interface, Resource, UsedType, World,
@@ -62,7 +62,7 @@ impl<'a> Place<'a> {
 }
 
 fn only(at: usize, place: Place<'_>, kind: Option<ItemKind>) -> Option<Child<'_>>
-    ensures { option_map child_view result ≡ slice_get (child_view (record { place = place.entry; kind = kind }) ∷ []) at }
+    ensures { option_map child_view result ≡ slice_get ((slot_of place.entry, kind) ∷ []) at }
 {
     if at == 0 {
         Some(Child { place, kind })
@@ -190,8 +190,8 @@ fn extern_at<'a>(
     exports: &'a IndexMap<String, ItemKind>,
     at: u128,
 ) -> Option<Child<'a>>
-    requires { at < length (import_children imports.now.entries ++ export_children exports.now.entries) }
-    ensures { option_map child_view result ≡ slice_get (import_children imports.now.entries ++ export_children exports.now.entries) at }
+    requires { at < length (extern_children imports.now.entries exports.now.entries) }
+    ensures { option_map child_view result ≡ slice_get (extern_children imports.now.entries exports.now.entries) at }
 {
     let count = imports.len() as u128;
     let _exports = exports.len();

@@ -1,8 +1,8 @@
 //! Names in order: the maps and sets of texts in entries.
-ghost use Rattle.std.specs.Prelude.{◌≡◌, [], ◌∷◌, ◌++◌, OnOk, OnErr, IfOk, false, option_map, slice_get, None, map, string_bytes, option_copied};
+ghost use Rattle.std.specs.Prelude.{◌≡◌, [], ◌∷◌, ◌++◌, OnOk, OnErr, IfOk, false, option_map, None, map, string_bytes, option_copied};
 ghost use Rattle.std.specs.List.{list_any};
 ghost use Rattle.std.specs.Str.{bytes_eq};
-ghost use Rattle.wac_graph_types.specs.Names.{by_name};
+ghost use Rattle.wac_graph_types.specs.Names.{by_name, name_in_place};
 ghost use Rattle.wac_graph_types.specs.Scope.{look_up, with_named, IsFresh};
 
 use indexmap::{IndexMap, IndexSet};
@@ -37,7 +37,7 @@ pub fn name_at<V: Drop>(
     all: &IndexMap<String, V>,
     at: usize,
 ) -> Result<Option<String>, AllocError>
-    ensures { IfOk result (λ n. option_map string_bytes n ≡ option_map (λ e. e.0) (slice_get (by_name all.now.entries) at)) }
+    ensures { IfOk result (λ n. option_map string_bytes n ≡ name_in_place at (by_name all.now.entries)) }
 {
     match all.get_index(at) {
         None => Ok(None),

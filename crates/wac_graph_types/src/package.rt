@@ -1,13 +1,13 @@
 //! Packages.
-ghost use Rattle.std.specs.Prelude.{◌≡◌, ℕ, ◌<◌, length, slice_get, option_map, option_and_then, option_copied, IsTrue, ◌↔◌, IfOk, IfErr, OnOk, IfSome};
+ghost use Rattle.std.specs.Prelude.{◌≡◌, ◌<◌, length, option_map, option_copied, IsTrue, ◌↔◌, IfOk, IfErr, OnOk, IfSome};
 ghost use Rattle.std.specs.List.{AllByRecursion};
 ghost use Rattle.wac_graph_types.specs.Entry.{children, export_children};
-ghost use Rattle.wac_graph_types.specs.Meaning.{row, meaning_at, IsOneToOne, IsEarlier, ChildrenBefore, EachKind};
-ghost use Rattle.wac_graph_types.specs.Readings.{as_interface, as_world};
+ghost use Rattle.wac_graph_types.specs.Meaning.{UnderOrigins, IsEarlier, ChildrenBefore, EachKind};
+ghost use Rattle.wac_graph_types.specs.Readings.{interface_in, world_in};
 ghost use Rattle.wac_graph_types.specs.Kind.{named_by};
 ghost use Rattle.wac_graph_types.specs.Names.{by_name};
 ghost use Rattle.wac_graph_types.specs.Table.{IsOfSort, IsTable, ItemsNamed, Names};
-ghost use Rattle.wac_graph_types.specs.Package.{IdsInRange, IdsOfSort, IdsEarlier, HaveIds, SameExports, OtherExports, IsPackage, FirstFault};
+ghost use Rattle.wac_graph_types.specs.Package.{parts_of, IdsInRange, IdsOfSort, IdsEarlier, HaveIds, SameExterns, SameExports, OtherExports, IsPackage, FirstFault};
 ghost use Rattle.wac_graph_types.specs.Tests.{Passes, EntriesPass, DefinitionsPass, AllPass};
 
 use crate::alike::same_child;
@@ -81,8 +81,7 @@ pub struct Package {
 }
 
 impl Model for Package {
-    ghost use Rattle.wac_graph_types.specs.Names.{by_name};
-    ghost use Rattle.wac_graph_types.specs.Package.{PackageParts, IsPackage};
+    ghost use Rattle.wac_graph_types.specs.Package.{PackageParts, parts_of, IsPackage};
     ghost use Rattle.std.specs.Coded.{codes};
     ghost use Rattle.wac_graph_types.specs.contracts.entry.Entry as entry;
 
@@ -90,9 +89,9 @@ impl Model for Package {
 
     ghost coded = { Prim.hlevel (codes, entry.the_row.coded) };
 
-    ghost view = { λ p. record { types = p.types; world = p.world; instance = p.instance; definitions = by_name p.definitions.entries } };
+    ghost view = { λ p. parts_of p.types p.world p.instance p.definitions.entries };
 
-    ghost invariant = { λ p. IsPackage (record { types = p.types; world = p.world; instance = p.instance; definitions = by_name p.definitions.entries }) };
+    ghost invariant = { λ p. IsPackage (parts_of p.types p.world p.instance p.definitions.entries) };
 }
 
 // Written out, so that a crate above, which may drop a package, need not prove how its parts are dropped.
@@ -217,7 +216,7 @@ fn all_pass(
     instance: InterfaceId,
     definitions: &IndexMap<String, ItemKind>,
 ) -> bool
-    ensures { IsTrue result ↔ AllPass test (record { types = entries.now; world = world; instance = instance; definitions = by_name definitions.now.entries }) }
+    ensures { IsTrue result ↔ AllPass test (parts_of entries.now world instance definitions.now.entries) }
 {
     passes(test, entries, 0, ItemKind::Component(world))
         && passes(test, entries, 0, ItemKind::Instance(instance))
@@ -232,7 +231,7 @@ fn ids_in_range(
     instance: InterfaceId,
     definitions: &IndexMap<String, ItemKind>,
 ) -> bool
-    ensures { IsTrue result ↔ IdsInRange (record { types = entries.now; world = world; instance = instance; definitions = by_name definitions.now.entries }) }
+    ensures { IsTrue result ↔ IdsInRange (parts_of entries.now world instance definitions.now.entries) }
 {
     all_pass(Test::InRange, entries, world, instance, definitions)
 }
@@ -244,7 +243,7 @@ fn ids_of_sort(
     instance: InterfaceId,
     definitions: &IndexMap<String, ItemKind>,
 ) -> bool
-    ensures { IsTrue result ↔ IdsOfSort (record { types = entries.now; world = world; instance = instance; definitions = by_name definitions.now.entries }) }
+    ensures { IsTrue result ↔ IdsOfSort (parts_of entries.now world instance definitions.now.entries) }
 {
     all_pass(Test::OfSort, entries, world, instance, definitions)
 }
@@ -272,7 +271,7 @@ fn same_externs(
     requires earlier { IsEarlier entries.now }
     requires first { ChildrenBefore (length entries.now) (export_children first.now.entries) }
     requires second { ChildrenBefore (length entries.now) (export_children second.now.entries) }
-    ensures { (o : ℕ → ℕ) → IsOneToOne entries.now o → (IsTrue result ↔ (row (meaning_at o entries.now) (export_children first.now.entries) ≡ row (meaning_at o entries.now) (export_children second.now.entries))) }
+    ensures { UnderOrigins entries.now (λ mean. IsTrue result ↔ SameExterns first.now.entries second.now.entries mean) }
 {
     let count = first.len();
     if second.len() != count {
@@ -297,7 +296,7 @@ fn same_externs(
 #[tactic(auto, using(crate::proofs::Exports::read_interface_before))]
 fn exports_of_interface(entries: &[Entry], id: InterfaceId) -> Option<&IndexMap<String, ItemKind>>
     requires earlier { IsEarlier entries.now }
-    ensures read { option_copied result ≡ option_map (λ i. i.exports) (option_and_then as_interface (slice_get entries.now id.0)) }
+    ensures read { option_copied result ≡ option_map (λ i. i.exports) (interface_in entries.now id.0) }
     ensures before { IfSome result (λ m. ChildrenBefore (length entries.now) (export_children m.now.entries)) }
 {
     let interface = interface_at(entries, id)?;
@@ -307,7 +306,7 @@ fn exports_of_interface(entries: &[Entry], id: InterfaceId) -> Option<&IndexMap<
 #[tactic(auto, using(crate::proofs::Exports::read_world_before))]
 fn exports_of_world(entries: &[Entry], id: WorldId) -> Option<&IndexMap<String, ItemKind>>
     requires earlier { IsEarlier entries.now }
-    ensures read { option_copied result ≡ option_map (λ w. w.exports) (option_and_then as_world (slice_get entries.now id.0)) }
+    ensures read { option_copied result ≡ option_map (λ w. w.exports) (world_in entries.now id.0) }
     ensures before { IfSome result (λ m. ChildrenBefore (length entries.now) (export_children m.now.entries)) }
 {
     let world = world_at(entries, id)?;
@@ -339,8 +338,8 @@ fn test_parts(
     instance: InterfaceId,
     definitions: &IndexMap<String, ItemKind>,
 ) -> Result<(), PackageError>
-    ensures ok { OnOk result (IsPackage (record { types = entries.now; world = world; instance = instance; definitions = by_name definitions.now.entries })) }
-    ensures err { IfErr result (λ e. FirstFault e (record { types = entries.now; world = world; instance = instance; definitions = by_name definitions.now.entries })) }
+    ensures ok { OnOk result (IsPackage (parts_of entries.now world instance definitions.now.entries)) }
+    ensures err { IfErr result (λ e. FirstFault e (parts_of entries.now world instance definitions.now.entries)) }
 {
     if !ids_in_range(entries, world, instance, definitions) {
         return Err(PackageError::OutOfRange);
@@ -371,9 +370,9 @@ impl Package {
         instance: InterfaceId,
         definitions: IndexMap<String, ItemKind>,
     ) -> Result<Package, PackageError>
-        ensures is { IfOk result (λ p. p ≡ record { types = types; world = world; instance = instance; definitions = by_name definitions.entries }) }
+        ensures is { IfOk result (λ p. p ≡ parts_of types world instance definitions.entries) }
         ensures ok { IfOk result IsPackage }
-        ensures err { IfErr result (λ e. FirstFault e (record { types = types; world = world; instance = instance; definitions = by_name definitions.entries })) }
+        ensures err { IfErr result (λ e. FirstFault e (parts_of types world instance definitions.entries)) }
     {
         match test_parts(types.entries(), world, instance, &definitions) {
             Err(fault) => Err(fault),

@@ -1,8 +1,8 @@
 //! Rules that a caller supplies.
-ghost use Rattle.std.specs.Prelude.{◌≡◌, ℕ, List, Option, None, Some, length};
+ghost use Rattle.std.specs.Prelude.{ℕ, List, Option};
 ghost use Rattle.wac_graph_types.specs.declared.rules.Reason.{Reason};
-ghost use Rattle.wac_graph_types.specs.Meaning.{Meaning, IsOneToOne, meaning};
-ghost use Rattle.wac_graph_types.specs.Rules.{Answers, renamed, KeepsApart};
+ghost use Rattle.wac_graph_types.specs.Meaning.{Meaning, UnderOrigins, of_kind};
+ghost use Rattle.wac_graph_types.specs.Rules.{Answers, IgnoresRenaming};
 ghost use Rattle.wac_graph_types.specs.Table.{IsTable, Names};
 
 use crate::kind::ItemKind;
@@ -29,12 +29,12 @@ pub trait Rules {
         requires table { IsTable types.now }
         requires first { Names types.now a }
         requires second { Names types.now b }
-        ensures { (origins : ℕ → ℕ) → IsOneToOne types.now origins → Answers result (passes self.now (meaning origins types.now a) (meaning origins types.now b)) };
+        ensures { UnderOrigins types.now (λ mean. Answers result (passes self.now (of_kind mean a) (of_kind mean b))) };
 
     /// Whether an import or export may have the name.
     fn extern_name(&self, name: &str) -> Result<(), Reason>
         ensures { Answers result (named self.now name.now) };
 
     /// The result stays the same when the origins that occur in the meanings are renamed one to one.
-    ghost alike_renamed: { (x : Self) (f : ℕ → ℕ) (a b : Meaning) → KeepsApart f a b → passes x (renamed f a) (renamed f b) ≡ passes x a b };
+    ghost alike_renamed: { (x : Self) → IgnoresRenaming (passes x) };
 }

@@ -1,11 +1,11 @@
 //! The table of types.
 ghost use Rattle.std.specs.Prelude.{◌≡◌, ℕ, ◌+◌, ◌<◌, ◌^◌, ◌++◌, [], ◌∷◌, IsTrue, ◌↔◌, IfOk, OnOk, OnErr, length, slice_get, option_copied, option_and_then, option_map, unwrap_or, string_bytes, vec_len, vec_capacity};
 ghost use Rattle.wac_graph_types.specs.Growth.{KeepsMeanings};
-ghost use Rattle.wac_graph_types.specs.Meaning.{IsOneToOne, meaning};
+ghost use Rattle.wac_graph_types.specs.Meaning.{UnderOrigins, meaning, of_kind};
 ghost use Rattle.wac_graph_types.specs.Shape.{contains_borrow as has_borrow};
 ghost use Rattle.wac_graph_types.specs.Table.{IsTable, Names};
 ghost use Rattle.wac_graph_types.specs.Readings.{as_defined, as_resource, as_func, as_interface, as_world, interface_exports, world_exports, world_imports, kind_exports};
-ghost use Rattle.wac_graph_types.specs.Names.{by_name};
+ghost use Rattle.wac_graph_types.specs.Names.{by_name, name_in_place};
 ghost use Rattle.wac_graph_types.specs.Scope.{look_up};
 
 use crate::entry::{DefinedType, Entry, FuncType, Interface, Resource, World};
@@ -285,7 +285,7 @@ impl Types {
         kind: ItemKind,
         at: usize,
     ) -> Result<Option<String>, AllocError>
-        ensures { IfOk result (λ n. option_map string_bytes n ≡ option_map (λ e. e.0) (slice_get (kind_exports self.now kind) at)) }
+        ensures { IfOk result (λ n. option_map string_bytes n ≡ name_in_place at (kind_exports self.now kind)) }
     {
         match self.exports(kind) {
             None => Ok(None),
@@ -300,7 +300,7 @@ impl Types {
         id: WorldId,
         at: usize,
     ) -> Result<Option<String>, AllocError>
-        ensures { IfOk result (λ n. option_map string_bytes n ≡ option_map (λ e. e.0) (slice_get (world_imports self.now id.0) at)) }
+        ensures { IfOk result (λ n. option_map string_bytes n ≡ name_in_place at (world_imports self.now id.0)) }
     {
         match self.imports(id) {
             None => Ok(None),
@@ -321,7 +321,7 @@ impl Types {
         requires table { IsTable self.now }
         requires first { Names self.now a }
         requires second { Names self.now b }
-        ensures { (origins : ℕ → ℕ) → IsOneToOne self.now origins → (IsTrue result ↔ (meaning origins self.now a ≡ meaning origins self.now b)) }
+        ensures { UnderOrigins self.now (λ mean. IsTrue result ↔ (of_kind mean a ≡ of_kind mean b)) }
     {
         alike::same(&self.entries, a, b)
     }
