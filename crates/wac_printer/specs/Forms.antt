@@ -74,13 +74,14 @@ abbrev pub PrintsBody : {A : Type 0} → Printer → PrintResult → Printer →
 PrintsBody old result new layout walk trees =
     Prints old result new (body layout old.depth (map (walk (bare old.source) doc_lines) trees))
 
--- ---- layouts of values, from those of their trees
+-- ---- layouts of values, by a source and a depth, from those of their trees
 
 abbrev pub bare_layout : {X A : Type 0} → LayoutAt A → WalkOver A → (X → A) → List ℕ → LayoutAt X
-bare_layout layout walk tree_of source depth x = layout depth (walk (bare source) (tree_of x))
+bare_layout layout walk tree_of = λ source depth x. layout depth (walk (bare source) (tree_of x))
 
+-- of trees that may hold docs
 abbrev pub tree_layout : {X A : Type 0} → LayoutAt A → WalkWithDocs A → (X → A) → List ℕ → LayoutAt X
-tree_layout layout walk tree_of source depth x = layout depth (walk (bare source) doc_lines (tree_of x))
+tree_layout layout walk tree_of = λ source depth x. layout depth (walk (bare source) doc_lines (tree_of x))
 
 -- ---- the sink of a printer
 

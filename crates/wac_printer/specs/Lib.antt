@@ -4,3 +4,4 @@ pub mod Layouts
 pub mod Sliced
 pub mod Arguments
 pub mod ReadBack
+pub mod Lent

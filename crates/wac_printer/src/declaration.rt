@@ -12,7 +12,6 @@ ghost use Rattle.wac_printer_layout.specs.Printed.{token};
 ghost use Rattle.wac_printer_pieces.specs.Printed.{Prints};
 ghost use Rattle.wac_ast_grammar.specs.Leaves.{IfThere};
 ghost use Rattle.wac_printer.specs.Sliced.{IdentSliced, any_docs, printable};
-ghost use Rattle.wac_printer_layout.specs.Bare.{doc_lines, bare};
 ghost use Rattle.wac_printer_layout.specs.DeclarationLayout.{enum_case_layout, enum_decl_layout, field_layout, flag_layout, flags_decl_layout, label_layout, method_layout, payload_layout, record_decl_layout, resource_method_layout, static_layout, type_alias_layout, type_decl_layout, variant_case_layout, variant_decl_layout};
 ghost use Rattle.wac_printer.specs.Forms.{PrintsAt, PrintsEach, PrintsOption, PrintsTree, tree_layout, walk_ident};
 ghost use Rattle.wac_printer.specs.Nodes.{PrintsConstructor, PrintsHead, PrintsItemTypeDecl, PrintsResourceDecl, PrintsResourceMethod, PrintsResourceMethods, PrintsTypeAliasKind};
@@ -29,7 +28,7 @@ use wac_lexer::Sink;
 use wac_printer_pieces::PrintResult;
 
 impl Node for Flag<'_> {
-    ghost layout = { λ source depth x. flag_layout depth (walk_flag (bare source) doc_lines (flag_of x)) };
+    ghost layout = { tree_layout flag_layout walk_flag flag_of };
 
     ghost sliced = { λ source x. walk_flag (printable source) any_docs (flag_of x) };
 
@@ -49,7 +48,7 @@ impl Node for EnumCase<'_> {
 }
 
 impl Node for Field<'_> {
-    ghost layout = { λ source depth x. field_layout depth (walk_field (bare source) doc_lines (field_of x)) };
+    ghost layout = { tree_layout field_layout walk_field field_of };
 
     ghost sliced = { λ source x. walk_field (printable source) any_docs (field_of x) };
 

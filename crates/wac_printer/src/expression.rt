@@ -2,7 +2,6 @@
 ghost use Rattle.std.specs.Prelude.{◌≡◌, true, List, [], ◌∷◌, codes, map};
 ghost use Rattle.std.specs.List.{All};
 ghost use Rattle.wac_ast_grammar.specs.Walk.{walk_access_expr, walk_arguments, walk_expr, walk_instantiation_argument, walk_instantiation_argument_name, walk_named_access_expr, walk_postfix_expr, walk_primary_expr};
-ghost use Rattle.wac_ast_grammar.specs.Tree.{arguments_from};
 ghost use Rattle.wac_ast_expressions.specs.Expressions.{access_expr_of, argument_name_of, argument_of, expr_of, named_access_expr_of, new_expr_of, postfix_expr_of, primary_expr_of};
 ghost use Rattle.wac_ast_base.specs.Names.{package_name_of};
 ghost use Rattle.wac_printer_layout.specs.Printed.{token};
@@ -87,7 +86,7 @@ impl<'a, S: Sink> DocumentPrinter<'a, S> {
 
 /// Whether it is `...` alone.
 fn is_lone_fill(arguments: &[InstantiationArgument<'_>]) -> bool
-    ensures { result ≡ is_lone_fill (arguments_from (map argument_of arguments.now)) }
+    ensures { result ≡ is_lone_fill (arguments_of arguments.now) }
 {
     match arguments.split_first() {
         Some((InstantiationArgument::Fill(_), rest)) => rest.is_empty(),
@@ -158,7 +157,7 @@ impl<'a, S: Sink> DocumentPrinter<'a, S> {
     /// Prints what is between the braces of an instantiation.
     #[cycle(expr)]
     fn braced(&mut self, arguments: &[InstantiationArgument<'_>]) -> PrintResult
-        requires { walk_arguments (printable self.old.source) (arguments_from (map argument_of arguments.now)) }
+        requires { walk_arguments (printable self.old.source) (arguments_of arguments.now) }
         ensures { PrintsAt self.old result self.new braces_layout walk_arguments (arguments_of arguments.now) }
     {
         if arguments.is_empty() {
@@ -172,7 +171,7 @@ impl<'a, S: Sink> DocumentPrinter<'a, S> {
 
     #[cycle(expr)]
     fn argument_lines(&mut self, arguments: &[InstantiationArgument<'_>]) -> PrintResult
-        requires { walk_arguments (printable self.old.source) (arguments_from (map argument_of arguments.now)) }
+        requires { walk_arguments (printable self.old.source) (arguments_of arguments.now) }
         ensures { PrintsAt self.old result self.new argument_lines_layout walk_arguments (arguments_of arguments.now) }
     {
         self.blank("\n")?;
@@ -182,7 +181,7 @@ impl<'a, S: Sink> DocumentPrinter<'a, S> {
 
     #[cycle(expr)]
     fn deeper_arguments(&mut self, arguments: &[InstantiationArgument<'_>]) -> PrintResult
-        requires { walk_arguments (printable self.old.source) (arguments_from (map argument_of arguments.now)) }
+        requires { walk_arguments (printable self.old.source) (arguments_of arguments.now) }
         ensures { PrintsAt self.old result self.new inner_arguments_layout walk_arguments (arguments_of arguments.now) }
     {
         let depth = self.indent();
@@ -194,7 +193,7 @@ impl<'a, S: Sink> DocumentPrinter<'a, S> {
     /// Prints arguments, each on a line of its own.
     #[cycle(expr)]
     fn arguments(&mut self, arguments: &[InstantiationArgument<'_>]) -> PrintResult
-        requires { walk_arguments (printable self.old.source) (arguments_from (map argument_of arguments.now)) }
+        requires { walk_arguments (printable self.old.source) (arguments_of arguments.now) }
         ensures { PrintsAt self.old result self.new arguments_layout walk_arguments (arguments_of arguments.now) }
     {
         match arguments.split_last() {

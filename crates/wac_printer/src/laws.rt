@@ -1,9 +1,8 @@
 // Laws of the definitions that the printer's contracts cite. Each function does nothing: its contract is the law.
-ghost use Rattle.std.specs.Prelude.{◌≡◌, ℕ, Bool, List};
+ghost use Rattle.std.specs.Prelude.{ℕ, List};
 ghost use Rattle.wac_ast_grammar.specs.Tree.{Document};
 ghost use Rattle.wac_ast_grammar.specs.Slices.{DocumentSlices};
 ghost use Rattle.wac_printer.specs.Sliced.{DocumentSliced};
-ghost use Rattle.wac_printer_layout.specs.Printed.{text};
 ghost use Rattle.wac_printer.specs.ReadBack.{EqualBareTreesPrintEqually, WhatIsPrintedReadsBack};
 
 /// Documents that are equal but for spans, with each name as its source spells it and each line of docs apart,

@@ -47,16 +47,15 @@ pub struct Page<'t, 'a> {
 }
 
 impl<'t, 'a> Model for Page<'t, 'a> {
-    ghost use Rattle.std.specs.Prelude.{[]};
     ghost use Rattle.std.specs.Coded.{codes};
     ghost use Rattle.wac_ast_types.specs.contracts.types.«Type» as ty;
     ghost use Rattle.wac_ast_expressions.specs.contracts.expr.PrimaryExpr as primary;
-    ghost use mir.Syntax.{erased};
+    ghost use Rattle.wac_printer.specs.Lent.{no_lifetime};
     ghost use Rattle.wac_ast.specs.declared.document.Document.{Document};
 
     ghost Value = { Document };
 
-    ghost coded = { Prim.hlevel (codes, (ty.the_row (record { mir = erased; lft = [] })).coded, (primary.the_row (record { mir = erased; lft = [] })).coded) };
+    ghost coded = { Prim.hlevel (codes, (ty.the_row no_lifetime).coded, (primary.the_row no_lifetime).coded) };
 
     ghost view = { λ p. p.document.now };
 
@@ -74,16 +73,16 @@ pub struct Statements<'t, 'a> {
 }
 
 impl<'t, 'a> Model for Statements<'t, 'a> {
-    ghost use Rattle.std.specs.Prelude.{List, []};
+    ghost use Rattle.std.specs.Prelude.{List};
     ghost use Rattle.std.specs.Coded.{codes};
     ghost use Rattle.wac_ast_types.specs.contracts.types.«Type» as ty;
     ghost use Rattle.wac_ast_expressions.specs.contracts.expr.PrimaryExpr as primary;
-    ghost use mir.Syntax.{erased};
+    ghost use Rattle.wac_printer.specs.Lent.{no_lifetime};
     ghost use Rattle.wac_ast.specs.declared.statement.Statement.{Statement};
 
     ghost Value = { List Statement };
 
-    ghost coded = { Prim.hlevel (codes, (ty.the_row (record { mir = erased; lft = [] })).coded, (primary.the_row (record { mir = erased; lft = [] })).coded) };
+    ghost coded = { Prim.hlevel (codes, (ty.the_row no_lifetime).coded, (primary.the_row no_lifetime).coded) };
 
     ghost view = { λ s. s.document.now.statements.items };
 
