@@ -1,3 +1,7 @@
+pub mod Forms
+pub mod Nodes
+pub mod Layouts
 pub mod Sliced
 pub mod Arguments
 pub mod ReadBack
+pub mod Lent

@@ -1,6 +1,6 @@
 //! Printing declarations of types.
 ghost use Rattle.std.specs.List.{All};
-ghost use Rattle.std.specs.Prelude.{List, [], ◌∷◌, ◌++◌, codes, map};
+ghost use Rattle.std.specs.Prelude.{List, [], ◌∷◌, codes, map};
 ghost use Rattle.std.specs.Option.{option_map};
 ghost use Rattle.wac_ast_grammar.specs.Walk.{walk_constructor, walk_enum_case, walk_enum_decl, walk_field, walk_flag, walk_flags_decl, walk_item_type_decl, walk_method, walk_named_type, walk_record_decl, walk_resource_decl, walk_resource_method, walk_ty, walk_type_alias, walk_type_alias_kind, walk_type_decl, walk_variant_case, walk_variant_decl};
 ghost use Rattle.wac_ast_types.specs.Declarations.{named_type_of, type_alias_kind_of, field_of, record_decl_of, type_alias_of, variant_case_of, variant_decl_of};
@@ -12,10 +12,10 @@ ghost use Rattle.wac_printer_layout.specs.Printed.{token};
 ghost use Rattle.wac_printer_pieces.specs.Printed.{Prints};
 ghost use Rattle.wac_ast_grammar.specs.Leaves.{IfThere};
 ghost use Rattle.wac_printer.specs.Sliced.{IdentSliced, any_docs, printable};
-ghost use Rattle.wac_printer_layout.specs.Bare.{bare_ident, doc_lines, bare};
-ghost use Rattle.wac_printer_layout.specs.DeclarationLayout.{alias_kind_layout, constructor_layout, enum_case_layout, enum_decl_layout, field_layout, flag_layout, flags_decl_layout, head_layout, item_type_decl_layout, label_layout, method_layout, payload_layout, record_decl_layout, resource_decl_layout, resource_method_layout, static_layout, type_alias_layout, type_decl_layout, variant_case_layout, variant_decl_layout};
-ghost use Rattle.wac_printer_layout.specs.TypeLayout.{params_layout};
-ghost use Rattle.wac_printer_layout.specs.Parts.{body};
+ghost use Rattle.wac_printer_layout.specs.DeclarationLayout.{enum_case_layout, enum_decl_layout, field_layout, flag_layout, flags_decl_layout, label_layout, method_layout, payload_layout, record_decl_layout, resource_method_layout, static_layout, type_alias_layout, type_decl_layout, variant_case_layout, variant_decl_layout};
+ghost use Rattle.wac_printer.specs.Forms.{PrintsAt, PrintsEach, PrintsOption, PrintsTree, tree_layout, walk_ident};
+ghost use Rattle.wac_printer.specs.Nodes.{PrintsConstructor, PrintsHead, PrintsItemTypeDecl, PrintsResourceDecl, PrintsResourceMethod, PrintsResourceMethods, PrintsTypeAliasKind};
+ghost use Rattle.wac_printer.specs.Layouts.{signature_layout};
 
 use crate::lists::Node;
 use crate::printer::DocumentPrinter;
@@ -28,7 +28,7 @@ use wac_lexer::Sink;
 use wac_printer_pieces::PrintResult;
 
 impl Node for Flag<'_> {
-    ghost layout = { λ source depth x. flag_layout depth (walk_flag (bare source) doc_lines (flag_of x)) };
+    ghost layout = { tree_layout flag_layout walk_flag flag_of };
 
     ghost sliced = { λ source x. walk_flag (printable source) any_docs (flag_of x) };
 
@@ -38,7 +38,7 @@ impl Node for Flag<'_> {
 }
 
 impl Node for EnumCase<'_> {
-    ghost layout = { λ source depth x. enum_case_layout depth (walk_enum_case (bare source) doc_lines (enum_case_of x)) };
+    ghost layout = { tree_layout enum_case_layout walk_enum_case enum_case_of };
 
     ghost sliced = { λ source x. walk_enum_case (printable source) any_docs (enum_case_of x) };
 
@@ -48,7 +48,7 @@ impl Node for EnumCase<'_> {
 }
 
 impl Node for Field<'_> {
-    ghost layout = { λ source depth x. field_layout depth (walk_field (bare source) doc_lines (field_of x)) };
+    ghost layout = { tree_layout field_layout walk_field field_of };
 
     ghost sliced = { λ source x. walk_field (printable source) any_docs (field_of x) };
 
@@ -58,7 +58,7 @@ impl Node for Field<'_> {
 }
 
 impl Node for VariantCase<'_> {
-    ghost layout = { λ source depth x. variant_case_layout depth (walk_variant_case (bare source) doc_lines (variant_case_of x)) };
+    ghost layout = { tree_layout variant_case_layout walk_variant_case variant_case_of };
 
     ghost sliced = { λ source x. walk_variant_case (printable source) any_docs (variant_case_of x) };
 
@@ -68,7 +68,7 @@ impl Node for VariantCase<'_> {
 }
 
 impl Node for ResourceMethod<'_> {
-    ghost layout = { λ source depth x. resource_method_layout depth (walk_resource_method (bare source) doc_lines (resource_method_of x)) };
+    ghost layout = { tree_layout resource_method_layout walk_resource_method resource_method_of };
 
     ghost sliced = { λ source x. walk_resource_method (printable source) any_docs (resource_method_of x) };
 
@@ -82,7 +82,7 @@ impl<'a, S: Sink> DocumentPrinter<'a, S> {
     /// Prints a keyword and an identifier on a line.
     pub(crate) fn head(&mut self, keyword: &str, id: &Ident<'_>) -> PrintResult
         requires { IdentSliced self.old.source (ident_of id.now) }
-        ensures { Prints self.old result self.new (head_layout self.old.depth keyword.now (bare_ident self.old.source (ident_of id.now))) }
+        ensures { PrintsHead self.old result self.new keyword.now (ident_of id.now) }
     {
         self.line()
             .and(self.token(keyword))
@@ -93,7 +93,7 @@ impl<'a, S: Sink> DocumentPrinter<'a, S> {
     /// Prints an identifier and a colon on a line.
     pub(crate) fn label(&mut self, id: &Ident<'_>) -> PrintResult
         requires { IdentSliced self.old.source (ident_of id.now) }
-        ensures { Prints self.old result self.new (label_layout self.old.depth (bare_ident self.old.source (ident_of id.now))) }
+        ensures { PrintsAt self.old result self.new label_layout walk_ident (ident_of id.now) }
     {
         self.line()
             .and(self.ident(id))
@@ -104,7 +104,7 @@ impl<'a, S: Sink> DocumentPrinter<'a, S> {
     /// Prints the declaration of a type in an interface or a world.
     pub fn item_type_decl(&mut self, decl: &ItemTypeDecl<'_>) -> PrintResult
         requires { walk_item_type_decl (printable self.old.source) any_docs (item_type_decl_of decl.now) }
-        ensures { Prints self.old result self.new (item_type_decl_layout self.old.depth (walk_item_type_decl (bare self.old.source) doc_lines (item_type_decl_of decl.now))) }
+        ensures { PrintsItemTypeDecl self.old result self.new (item_type_decl_of decl.now) }
     {
         match decl {
             ItemTypeDecl::Resource(decl) => self.resource_decl(decl),
@@ -119,7 +119,7 @@ impl<'a, S: Sink> DocumentPrinter<'a, S> {
     /// Prints the declaration of a type in a document.
     pub fn type_decl(&mut self, decl: &TypeDecl<'_>) -> PrintResult
         requires { walk_type_decl (printable self.old.source) any_docs (type_decl_of decl.now) }
-        ensures { Prints self.old result self.new (type_decl_layout self.old.depth (walk_type_decl (bare self.old.source) doc_lines (type_decl_of decl.now))) }
+        ensures { PrintsTree self.old result self.new type_decl_layout walk_type_decl (type_decl_of decl.now) }
     {
         match decl {
             TypeDecl::Variant(decl) => self.variant_decl(decl),
@@ -134,7 +134,7 @@ impl<'a, S: Sink> DocumentPrinter<'a, S> {
     #[tactic(auto, using(crate::proofs::Steps::steps))]
     pub fn resource_decl(&mut self, decl: &ResourceDecl<'_>) -> PrintResult
         requires { walk_resource_decl (printable self.old.source) any_docs (resource_decl_of decl.now) }
-        ensures { Prints self.old result self.new (resource_decl_layout self.old.depth (walk_resource_decl (bare self.old.source) doc_lines (resource_decl_of decl.now))) }
+        ensures { PrintsResourceDecl self.old result self.new (resource_decl_of decl.now) }
     {
         self.docs(&decl.docs)
             .and(self.resource_head(&decl.id))
@@ -143,7 +143,7 @@ impl<'a, S: Sink> DocumentPrinter<'a, S> {
 
     fn resource_methods(&mut self, items: &[ResourceMethod<'_>]) -> PrintResult
         requires { All (walk_resource_method (printable self.old.source) any_docs) (map resource_method_of items.now) }
-        ensures { Prints self.old result self.new (body resource_method_layout self.old.depth (map (walk_resource_method (bare self.old.source) doc_lines) (map resource_method_of items.now))) }
+        ensures { PrintsResourceMethods self.old result self.new (map resource_method_of items.now) }
     {
         self.body(items)
     }
@@ -151,7 +151,7 @@ impl<'a, S: Sink> DocumentPrinter<'a, S> {
     /// Prints a constructor or a method.
     pub fn resource_method(&mut self, method: &ResourceMethod<'_>) -> PrintResult
         requires { walk_resource_method (printable self.old.source) any_docs (resource_method_of method.now) }
-        ensures { Prints self.old result self.new (resource_method_layout self.old.depth (walk_resource_method (bare self.old.source) doc_lines (resource_method_of method.now))) }
+        ensures { PrintsResourceMethod self.old result self.new (resource_method_of method.now) }
     {
         match method {
             ResourceMethod::Constructor(constructor) => self.constructor(constructor),
@@ -163,7 +163,7 @@ impl<'a, S: Sink> DocumentPrinter<'a, S> {
     #[tactic(auto, using(crate::proofs::Steps::steps))]
     pub fn constructor(&mut self, constructor: &Constructor<'_>) -> PrintResult
         requires { walk_constructor (printable self.old.source) any_docs (constructor_of constructor.now) }
-        ensures { Prints self.old result self.new (constructor_layout self.old.depth (walk_constructor (bare self.old.source) doc_lines (constructor_of constructor.now))) }
+        ensures { PrintsConstructor self.old result self.new (constructor_of constructor.now) }
     {
         self.docs(&constructor.docs)
             .and(self.line())
@@ -179,7 +179,7 @@ impl<'a, S: Sink> DocumentPrinter<'a, S> {
 
     fn resource_head(&mut self, id: &Ident<'_>) -> PrintResult
         requires { IdentSliced self.old.source (ident_of id.now) }
-        ensures { Prints self.old result self.new (head_layout self.old.depth (codes "resource") (bare_ident self.old.source (ident_of id.now))) }
+        ensures { PrintsHead self.old result self.new (codes "resource") (ident_of id.now) }
     {
         self.head("resource", id)
     }
@@ -187,7 +187,7 @@ impl<'a, S: Sink> DocumentPrinter<'a, S> {
     /// Prints parameters in parentheses and a semicolon.
     fn signature(&mut self, params: &[NamedType<'_>]) -> PrintResult
         requires { All (walk_named_type (printable self.old.source)) (map named_type_of params.now) }
-        ensures { Prints self.old result self.new (params_layout (map (walk_named_type (bare self.old.source)) (map named_type_of params.now)) ++ token (codes ";") ∷ []) }
+        ensures { PrintsEach self.old result self.new signature_layout walk_named_type (map named_type_of params.now) }
     {
         self.params(params).and(self.token(";"))
     }
@@ -195,7 +195,7 @@ impl<'a, S: Sink> DocumentPrinter<'a, S> {
     /// Prints a method: `m: static func();`.
     pub fn method(&mut self, method: &Method<'_>) -> PrintResult
         requires { walk_method (printable self.old.source) any_docs (method_of method.now) }
-        ensures { Prints self.old result self.new (method_layout self.old.depth (walk_method (bare self.old.source) doc_lines (method_of method.now))) }
+        ensures { PrintsTree self.old result self.new method_layout walk_method (method_of method.now) }
     {
         self.docs(&method.docs)
             .and(self.label(&method.id))
@@ -218,7 +218,7 @@ impl<'a, S: Sink> DocumentPrinter<'a, S> {
     /// Prints a variant.
     pub fn variant_decl(&mut self, decl: &VariantDecl<'_>) -> PrintResult
         requires { walk_variant_decl (printable self.old.source) any_docs (variant_decl_of decl.now) }
-        ensures { Prints self.old result self.new (variant_decl_layout self.old.depth (walk_variant_decl (bare self.old.source) doc_lines (variant_decl_of decl.now))) }
+        ensures { PrintsTree self.old result self.new variant_decl_layout walk_variant_decl (variant_decl_of decl.now) }
     {
         self.docs(&decl.docs)
             .and(self.head("variant", &decl.id))
@@ -228,7 +228,7 @@ impl<'a, S: Sink> DocumentPrinter<'a, S> {
     /// Prints a case of a variant: `a`, or `b(u8)`.
     pub fn variant_case(&mut self, case: &VariantCase<'_>) -> PrintResult
         requires { walk_variant_case (printable self.old.source) any_docs (variant_case_of case.now) }
-        ensures { Prints self.old result self.new (variant_case_layout self.old.depth (walk_variant_case (bare self.old.source) doc_lines (variant_case_of case.now))) }
+        ensures { PrintsTree self.old result self.new variant_case_layout walk_variant_case (variant_case_of case.now) }
     {
         self.docs(&case.docs)
             .and(self.line())
@@ -238,7 +238,7 @@ impl<'a, S: Sink> DocumentPrinter<'a, S> {
 
     fn payload(&mut self, ty: &Option<Type<'_>>) -> PrintResult
         requires { IfThere (walk_ty (printable self.old.source)) (option_map ty_of ty.now) }
-        ensures { Prints self.old result self.new (payload_layout (option_map (walk_ty (bare self.old.source)) (option_map ty_of ty.now))) }
+        ensures { PrintsOption self.old result self.new payload_layout walk_ty (option_map ty_of ty.now) }
     {
         match ty {
             None => self.ready(),
@@ -249,7 +249,7 @@ impl<'a, S: Sink> DocumentPrinter<'a, S> {
     /// Prints a record.
     pub fn record_decl(&mut self, decl: &RecordDecl<'_>) -> PrintResult
         requires { walk_record_decl (printable self.old.source) any_docs (record_decl_of decl.now) }
-        ensures { Prints self.old result self.new (record_decl_layout self.old.depth (walk_record_decl (bare self.old.source) doc_lines (record_decl_of decl.now))) }
+        ensures { PrintsTree self.old result self.new record_decl_layout walk_record_decl (record_decl_of decl.now) }
     {
         self.docs(&decl.docs)
             .and(self.head("record", &decl.id))
@@ -258,7 +258,7 @@ impl<'a, S: Sink> DocumentPrinter<'a, S> {
 
     fn field(&mut self, field: &Field<'_>) -> PrintResult
         requires { walk_field (printable self.old.source) any_docs (field_of field.now) }
-        ensures { Prints self.old result self.new (field_layout self.old.depth (walk_field (bare self.old.source) doc_lines (field_of field.now))) }
+        ensures { PrintsTree self.old result self.new field_layout walk_field (field_of field.now) }
     {
         self.docs(&field.docs)
             .and(self.label(&field.id))
@@ -268,7 +268,7 @@ impl<'a, S: Sink> DocumentPrinter<'a, S> {
     /// Prints flags.
     pub fn flags_decl(&mut self, decl: &FlagsDecl<'_>) -> PrintResult
         requires { walk_flags_decl (printable self.old.source) any_docs (flags_decl_of decl.now) }
-        ensures { Prints self.old result self.new (flags_decl_layout self.old.depth (walk_flags_decl (bare self.old.source) doc_lines (flags_decl_of decl.now))) }
+        ensures { PrintsTree self.old result self.new flags_decl_layout walk_flags_decl (flags_decl_of decl.now) }
     {
         self.docs(&decl.docs)
             .and(self.head("flags", &decl.id))
@@ -277,7 +277,7 @@ impl<'a, S: Sink> DocumentPrinter<'a, S> {
 
     fn flag(&mut self, flag: &Flag<'_>) -> PrintResult
         requires { walk_flag (printable self.old.source) any_docs (flag_of flag.now) }
-        ensures { Prints self.old result self.new (flag_layout self.old.depth (walk_flag (bare self.old.source) doc_lines (flag_of flag.now))) }
+        ensures { PrintsTree self.old result self.new flag_layout walk_flag (flag_of flag.now) }
     {
         self.docs(&flag.docs)
             .and(self.line())
@@ -287,7 +287,7 @@ impl<'a, S: Sink> DocumentPrinter<'a, S> {
     /// Prints an enum.
     pub fn enum_decl(&mut self, decl: &EnumDecl<'_>) -> PrintResult
         requires { walk_enum_decl (printable self.old.source) any_docs (enum_decl_of decl.now) }
-        ensures { Prints self.old result self.new (enum_decl_layout self.old.depth (walk_enum_decl (bare self.old.source) doc_lines (enum_decl_of decl.now))) }
+        ensures { PrintsTree self.old result self.new enum_decl_layout walk_enum_decl (enum_decl_of decl.now) }
     {
         self.docs(&decl.docs)
             .and(self.head("enum", &decl.id))
@@ -296,7 +296,7 @@ impl<'a, S: Sink> DocumentPrinter<'a, S> {
 
     fn enum_case(&mut self, case: &EnumCase<'_>) -> PrintResult
         requires { walk_enum_case (printable self.old.source) any_docs (enum_case_of case.now) }
-        ensures { Prints self.old result self.new (enum_case_layout self.old.depth (walk_enum_case (bare self.old.source) doc_lines (enum_case_of case.now))) }
+        ensures { PrintsTree self.old result self.new enum_case_layout walk_enum_case (enum_case_of case.now) }
     {
         self.docs(&case.docs)
             .and(self.line())
@@ -306,7 +306,7 @@ impl<'a, S: Sink> DocumentPrinter<'a, S> {
     /// Prints a type alias: `type t = u8;`.
     pub fn type_alias(&mut self, alias: &TypeAlias<'_>) -> PrintResult
         requires { walk_type_alias (printable self.old.source) any_docs (type_alias_of alias.now) }
-        ensures { Prints self.old result self.new (type_alias_layout self.old.depth (walk_type_alias (bare self.old.source) doc_lines (type_alias_of alias.now))) }
+        ensures { PrintsTree self.old result self.new type_alias_layout walk_type_alias (type_alias_of alias.now) }
     {
         self.docs(&alias.docs)
             .and(self.head("type", &alias.id))
@@ -319,7 +319,7 @@ impl<'a, S: Sink> DocumentPrinter<'a, S> {
 
     fn alias_kind(&mut self, kind: &TypeAliasKind<'_>) -> PrintResult
         requires { walk_type_alias_kind (printable self.old.source) (type_alias_kind_of kind.now) }
-        ensures { Prints self.old result self.new (alias_kind_layout (walk_type_alias_kind (bare self.old.source) (type_alias_kind_of kind.now))) }
+        ensures { PrintsTypeAliasKind self.old result self.new (type_alias_kind_of kind.now) }
     {
         match kind {
             TypeAliasKind::Func(ty) => self.func_type(ty),

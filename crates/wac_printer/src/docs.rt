@@ -4,8 +4,9 @@ ghost use Rattle.std.specs.List.{flat_map};
 ghost use Rattle.std.specs.Str.Lines.{lines};
 ghost use Rattle.wac_ast_base.specs.Names.{doc_comment_of};
 ghost use Rattle.wac_printer_pieces.specs.Printed.{Prints};
-ghost use Rattle.wac_printer_layout.specs.Bare.{doc_line, doc_lines};
+ghost use Rattle.wac_printer_layout.specs.Bare.{doc_line};
 ghost use Rattle.wac_printer_layout.specs.Parts.{docs_layout};
+ghost use Rattle.wac_printer.specs.Nodes.{PrintsDocs};
 
 use crate::lists::Node;
 use crate::printer::DocumentPrinter;
@@ -27,7 +28,7 @@ impl Node for DocComment<'_> {
 impl<'a, S: Sink> DocumentPrinter<'a, S> {
     /// Prints docs: for each line of each a line `/// ` with its text, trimmed. An empty one prints nothing.
     pub fn docs(&mut self, docs: &[DocComment<'_>]) -> PrintResult
-        ensures { Prints self.old result self.new (docs_layout self.old.depth (doc_lines (map doc_comment_of docs.now))) }
+        ensures { PrintsDocs self.old result self.new (map doc_comment_of docs.now) }
     {
         self.each(docs)
     }

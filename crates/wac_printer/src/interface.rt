@@ -10,10 +10,10 @@ ghost use Rattle.wac_printer_layout.specs.Printed.{token};
 ghost use Rattle.wac_printer_pieces.specs.Printed.{Prints};
 ghost use Rattle.wac_ast_grammar.specs.Leaves.{IfThere};
 ghost use Rattle.wac_printer.specs.Sliced.{IdentSliced, any_docs, printable};
-ghost use Rattle.wac_printer_layout.specs.Bare.{bare_ident, doc_lines, bare};
-ghost use Rattle.wac_printer_layout.specs.InterfaceLayout.{as_layout, inline_interface_layout, interface_decl_layout, interface_export_layout, interface_item_layout, use_item_layout, use_items_layout, use_layout, use_path_layout};
-ghost use Rattle.wac_printer_layout.specs.Parts.{body};
-ghost use Rattle.wac_printer_layout.specs.DeclarationLayout.{head_layout};
+ghost use Rattle.wac_printer_layout.specs.Bare.{bare};
+ghost use Rattle.wac_printer_layout.specs.InterfaceLayout.{as_layout, interface_item_layout, use_item_layout, use_items_layout, use_layout, use_path_layout};
+ghost use Rattle.wac_printer.specs.Forms.{PrintsBare, PrintsEach, PrintsOption, PrintsTree, tree_layout, walk_ident};
+ghost use Rattle.wac_printer.specs.Nodes.{PrintsHead, PrintsInlineInterface, PrintsInterfaceDecl, PrintsInterfaceExport, PrintsInterfaceItem, PrintsInterfaceItems};
 
 use crate::lists::Node;
 use crate::printer::DocumentPrinter;
@@ -34,7 +34,7 @@ impl Node for UseItem<'_> {
 }
 
 impl Node for InterfaceItem<'_> {
-    ghost layout = { λ source depth x. interface_item_layout depth (walk_interface_item (bare source) doc_lines (interface_item_of x)) };
+    ghost layout = { tree_layout interface_item_layout walk_interface_item interface_item_of };
 
     ghost sliced = { λ source x. walk_interface_item (printable source) any_docs (interface_item_of x) };
 
@@ -49,7 +49,7 @@ impl<'a, S: Sink> DocumentPrinter<'a, S> {
     #[tactic(auto, using(crate::proofs::Steps::steps))]
     pub fn interface_decl(&mut self, decl: &InterfaceDecl<'_>) -> PrintResult
         requires { walk_interface_decl (printable self.old.source) any_docs (interface_decl_of decl.now) }
-        ensures { Prints self.old result self.new (interface_decl_layout self.old.depth (walk_interface_decl (bare self.old.source) doc_lines (interface_decl_of decl.now))) }
+        ensures { PrintsInterfaceDecl self.old result self.new (interface_decl_of decl.now) }
     {
         self.docs(&decl.docs)
             .and(self.interface_head(&decl.id))
@@ -60,7 +60,7 @@ impl<'a, S: Sink> DocumentPrinter<'a, S> {
     #[tactic(auto, using(crate::proofs::Steps::steps))]
     pub fn inline_interface(&mut self, interface: &InlineInterface<'_>) -> PrintResult
         requires { walk_inline_interface (printable self.old.source) any_docs (inline_interface_of interface.now) }
-        ensures { Prints self.old result self.new (inline_interface_layout self.old.depth (walk_inline_interface (bare self.old.source) doc_lines (inline_interface_of interface.now))) }
+        ensures { PrintsInlineInterface self.old result self.new (inline_interface_of interface.now) }
     {
         self.interface_keyword()?;
         self.interface_items(&interface.items)
@@ -68,7 +68,7 @@ impl<'a, S: Sink> DocumentPrinter<'a, S> {
 
     fn interface_items(&mut self, items: &[InterfaceItem<'_>]) -> PrintResult
         requires { All (walk_interface_item (printable self.old.source) any_docs) (map interface_item_of items.now) }
-        ensures { Prints self.old result self.new (body interface_item_layout self.old.depth (map (walk_interface_item (bare self.old.source) doc_lines) (map interface_item_of items.now))) }
+        ensures { PrintsInterfaceItems self.old result self.new (map interface_item_of items.now) }
     {
         self.body(items)
     }
@@ -81,7 +81,7 @@ impl<'a, S: Sink> DocumentPrinter<'a, S> {
 
     fn interface_head(&mut self, id: &Ident<'_>) -> PrintResult
         requires { IdentSliced self.old.source (ident_of id.now) }
-        ensures { Prints self.old result self.new (head_layout self.old.depth (codes "interface") (bare_ident self.old.source (ident_of id.now))) }
+        ensures { PrintsHead self.old result self.new (codes "interface") (ident_of id.now) }
     {
         self.head("interface", id)
     }
@@ -89,7 +89,7 @@ impl<'a, S: Sink> DocumentPrinter<'a, S> {
     /// Prints an item of an interface.
     pub fn interface_item(&mut self, item: &InterfaceItem<'_>) -> PrintResult
         requires { walk_interface_item (printable self.old.source) any_docs (interface_item_of item.now) }
-        ensures { Prints self.old result self.new (interface_item_layout self.old.depth (walk_interface_item (bare self.old.source) doc_lines (interface_item_of item.now))) }
+        ensures { PrintsInterfaceItem self.old result self.new (interface_item_of item.now) }
     {
         match item {
             InterfaceItem::Use(decl) => self.use_type(decl),
@@ -101,7 +101,7 @@ impl<'a, S: Sink> DocumentPrinter<'a, S> {
     /// Prints an export of an interface: `f: func();`.
     pub fn interface_export(&mut self, export: &InterfaceExport<'_>) -> PrintResult
         requires { walk_interface_export (printable self.old.source) any_docs (interface_export_of export.now) }
-        ensures { Prints self.old result self.new (interface_export_layout self.old.depth (walk_interface_export (bare self.old.source) doc_lines (interface_export_of export.now))) }
+        ensures { PrintsInterfaceExport self.old result self.new (interface_export_of export.now) }
     {
         self.docs(&export.docs)
             .and(self.label(&export.id))
@@ -112,7 +112,7 @@ impl<'a, S: Sink> DocumentPrinter<'a, S> {
     /// Prints a `use`: `use a:b/c.{ t, u as v };`.
     pub fn use_type(&mut self, decl: &Use<'_>) -> PrintResult
         requires { walk_use (printable self.old.source) any_docs (use_of decl.now) }
-        ensures { Prints self.old result self.new (use_layout self.old.depth (walk_use (bare self.old.source) doc_lines (use_of decl.now))) }
+        ensures { PrintsTree self.old result self.new use_layout walk_use (use_of decl.now) }
     {
         self.docs(&decl.docs)
             .and(self.line())
@@ -125,7 +125,7 @@ impl<'a, S: Sink> DocumentPrinter<'a, S> {
 
     fn use_items(&mut self, items: &[UseItem<'_>]) -> PrintResult
         requires { All (walk_use_item (printable self.old.source)) (map use_item_of items.now) }
-        ensures { Prints self.old result self.new (use_items_layout (map (walk_use_item (bare self.old.source)) (map use_item_of items.now))) }
+        ensures { PrintsEach self.old result self.new use_items_layout walk_use_item (map use_item_of items.now) }
     {
         self.token(".")
             .and(self.token("{"))
@@ -138,7 +138,7 @@ impl<'a, S: Sink> DocumentPrinter<'a, S> {
     /// Prints the path of a `use`.
     pub fn use_path(&mut self, path: &UsePath<'_>) -> PrintResult
         requires { walk_use_path (printable self.old.source) (use_path_of path.now) }
-        ensures { Prints self.old result self.new (use_path_layout (walk_use_path (bare self.old.source) (use_path_of path.now))) }
+        ensures { PrintsBare self.old result self.new use_path_layout walk_use_path (use_path_of path.now) }
     {
         match path {
             UsePath::Package(path) => self.package_path(path),
@@ -148,14 +148,14 @@ impl<'a, S: Sink> DocumentPrinter<'a, S> {
 
     fn use_item(&mut self, item: &UseItem<'_>) -> PrintResult
         requires { walk_use_item (printable self.old.source) (use_item_of item.now) }
-        ensures { Prints self.old result self.new (use_item_layout (walk_use_item (bare self.old.source) (use_item_of item.now))) }
+        ensures { PrintsBare self.old result self.new use_item_layout walk_use_item (use_item_of item.now) }
     {
         self.ident(&item.id).and(self.as_ident(&item.as_id))
     }
 
     fn as_ident(&mut self, id: &Option<Ident<'_>>) -> PrintResult
         requires { IfThere (IdentSliced self.old.source) (option_map ident_of id.now) }
-        ensures { Prints self.old result self.new (as_layout (option_map (bare_ident self.old.source) (option_map ident_of id.now))) }
+        ensures { PrintsOption self.old result self.new as_layout walk_ident (option_map ident_of id.now) }
     {
         match id {
             None => self.ready(),

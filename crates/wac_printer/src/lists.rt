@@ -1,9 +1,10 @@
 //! Printing the lists of a tree.
-ghost use Rattle.std.specs.Prelude.{◌≡◌, ℕ, List, [], ◌∷◌, ◌++◌, codes};
+ghost use Rattle.std.specs.Prelude.{◌≡◌, ℕ, List, [], ◌∷◌, ◌++◌};
 ghost use Rattle.std.specs.List.{flat_map, All};
-ghost use Rattle.wac_printer_layout.specs.Printed.{Piece, token, deeper};
+ghost use Rattle.wac_printer_layout.specs.Printed.{Piece};
 ghost use Rattle.wac_printer_pieces.specs.Printed.{Prints};
-ghost use Rattle.wac_printer_layout.specs.Parts.{space, newline, joined, spaced, body, rows, open_body, close_body};
+ghost use Rattle.wac_printer_layout.specs.Parts.{newline, joined, spaced, body, rows, open_body, close_body};
+ghost use Rattle.wac_printer.specs.Layouts.{at_depth, behind_comma, behind_newline, one_deeper, row};
 
 use crate::printer::DocumentPrinter;
 use wac_lexer::Sink;
@@ -51,7 +52,7 @@ impl<'a, S: Sink> DocumentPrinter<'a, S> {
 
     fn behind_commas<T: Node>(&mut self, items: &[T]) -> PrintResult
         requires { All (T.sliced self.old.source) items.now }
-        ensures { Prints self.old result self.new (flat_map (λ x. (token (codes ",") ∷ space ∷ []) ++ T.layout self.old.source self.old.depth x) items.now) }
+        ensures { Prints self.old result self.new (flat_map (behind_comma (at_depth T.layout self.old)) items.now) }
     {
         self.ready()?;
         for item in items {
@@ -62,7 +63,7 @@ impl<'a, S: Sink> DocumentPrinter<'a, S> {
 
     fn behind_comma<T: Node>(&mut self, item: &T) -> PrintResult
         requires { T.sliced self.old.source item.now }
-        ensures { Prints self.old result self.new ((token (codes ",") ∷ space ∷ []) ++ T.layout self.old.source self.old.depth item.now) }
+        ensures { Prints self.old result self.new (behind_comma (at_depth T.layout self.old) item.now) }
     {
         self.token(",").and(self.blank(" ")).and(item.print(self))
     }
@@ -83,7 +84,7 @@ impl<'a, S: Sink> DocumentPrinter<'a, S> {
 
     fn behind_empty_lines<T: Node>(&mut self, items: &[T]) -> PrintResult
         requires { All (T.sliced self.old.source) items.now }
-        ensures { Prints self.old result self.new (flat_map (λ x. newline ∷ (T.layout self.old.source self.old.depth x ++ newline ∷ [])) items.now) }
+        ensures { Prints self.old result self.new (flat_map (behind_newline (at_depth T.layout self.old)) items.now) }
     {
         self.ready()?;
         for item in items {
@@ -94,7 +95,7 @@ impl<'a, S: Sink> DocumentPrinter<'a, S> {
 
     fn behind_empty_line<T: Node>(&mut self, item: &T) -> PrintResult
         requires { T.sliced self.old.source item.now }
-        ensures { Prints self.old result self.new (newline ∷ (T.layout self.old.source self.old.depth item.now ++ newline ∷ [])) }
+        ensures { Prints self.old result self.new (behind_newline (at_depth T.layout self.old) item.now) }
     {
         self.blank("\n").and(self.ended(item))
     }
@@ -119,7 +120,7 @@ impl<'a, S: Sink> DocumentPrinter<'a, S> {
 
     fn deeper_spaced<T: Node>(&mut self, items: &[T]) -> PrintResult
         requires { All (T.sliced self.old.source) items.now }
-        ensures { Prints self.old result self.new (spaced (T.layout self.old.source (deeper self.old.depth)) items.now) }
+        ensures { Prints self.old result self.new (spaced (one_deeper T.layout self.old) items.now) }
     {
         let depth = self.indent();
         let printed = self.spaced(items);
@@ -140,7 +141,7 @@ impl<'a, S: Sink> DocumentPrinter<'a, S> {
 
     fn deeper_rows<T: Node>(&mut self, items: &[T]) -> PrintResult
         requires { All (T.sliced self.old.source) items.now }
-        ensures { Prints self.old result self.new (flat_map (λ x. T.layout self.old.source (deeper self.old.depth) x ++ token (codes ",") ∷ newline ∷ []) items.now) }
+        ensures { Prints self.old result self.new (flat_map (row (one_deeper T.layout self.old)) items.now) }
     {
         let depth = self.indent();
         let printed = self.each_row(items);
@@ -150,7 +151,7 @@ impl<'a, S: Sink> DocumentPrinter<'a, S> {
 
     fn each_row<T: Node>(&mut self, items: &[T]) -> PrintResult
         requires { All (T.sliced self.old.source) items.now }
-        ensures { Prints self.old result self.new (flat_map (λ x. T.layout self.old.source self.old.depth x ++ token (codes ",") ∷ newline ∷ []) items.now) }
+        ensures { Prints self.old result self.new (flat_map (row (at_depth T.layout self.old)) items.now) }
     {
         self.ready()?;
         for item in items {
@@ -161,7 +162,7 @@ impl<'a, S: Sink> DocumentPrinter<'a, S> {
 
     fn row<T: Node>(&mut self, item: &T) -> PrintResult
         requires { T.sliced self.old.source item.now }
-        ensures { Prints self.old result self.new (T.layout self.old.source self.old.depth item.now ++ token (codes ",") ∷ newline ∷ []) }
+        ensures { Prints self.old result self.new (row (at_depth T.layout self.old) item.now) }
     {
         item.print(self).and(self.token(",")).and(self.blank("\n"))
     }

@@ -1,12 +1,12 @@
 //! The printer: how it is made, and what it writes with.
-ghost use Rattle.std.specs.Prelude.{◌≡◌, ℕ, List, [], ◌∷◌, ◌++◌, false, true, Option, codes};
+ghost use Rattle.std.specs.Prelude.{◌≡◌, ℕ, List, [], ◌∷◌, ◌++◌, Option, codes};
 ghost use Rattle.wac_lexer.specs.Reading.{slice, Slices};
 ghost use Rattle.wac_ast_base.specs.Names.{ident_of, string_of, package_name_of, package_path_of};
-ghost use Rattle.wac_printer_layout.specs.Bare.{bare_package_path};
 ghost use Rattle.wac_printer_layout.specs.TypeLayout.{package_path_layout};
 ghost use Rattle.wac_printer.specs.Sliced.{IdentSliced, StringSliced, PackageNameSliced, PackagePathSliced};
 ghost use Rattle.wac_printer_layout.specs.Printed.{token, blank, line, deeper};
-ghost use Rattle.wac_printer_pieces.specs.Printed.{Printer, Prints, space_of};
+ghost use Rattle.wac_printer_pieces.specs.Printed.{Printer, Prints};
+ghost use Rattle.wac_printer.specs.Forms.{IsNew, IsSinkOf, PrintsBare, walk_path};
 
 use std::marker::Model;
 use wac_ast::{Ident, PackageName, PackagePath, String};
@@ -32,7 +32,7 @@ impl<'a, S: Sink> DocumentPrinter<'a, S> {
     ///
     /// `space` is written once for each depth where a line begins: four spaces where it is `None`.
     pub fn new(writer: S, source: &'a str, space: Option<&'a str>) -> Self
-        ensures { result ≡ record { bytes = S.bytes writer; failures = S.failures writer; borrow = S.borrow writer; source = source.entry.now; space = space_of space.entry; depth = 0; fresh = true; failed = false } }
+        ensures { IsNew result (S.bytes writer) (S.failures writer) (S.borrow writer) source.entry.now space.entry }
     {
         DocumentPrinter {
             pieces: Pieces::new(writer, source, space),
@@ -41,7 +41,7 @@ impl<'a, S: Sink> DocumentPrinter<'a, S> {
 
     /// What was written into.
     pub fn into_writer(self) -> S
-        ensures { (S.bytes result ≡ self.entry.bytes) × (S.failures result ≡ self.entry.failures) × (S.borrow result ≡ self.entry.borrow) }
+        ensures { IsSinkOf self.entry (S.bytes result) (S.failures result) (S.borrow result) }
     {
         self.pieces.into_writer()
     }
@@ -118,7 +118,7 @@ impl<'a, S: Sink> DocumentPrinter<'a, S> {
     /// Prints a package path as it is spelled.
     pub fn package_path(&mut self, path: &PackagePath<'_>) -> PrintResult
         requires { PackagePathSliced self.old.source (package_path_of path.now) }
-        ensures { Prints self.old result self.new (package_path_layout (bare_package_path self.old.source (package_path_of path.now))) }
+        ensures { PrintsBare self.old result self.new package_path_layout walk_path (package_path_of path.now) }
     {
         self.spelled(path.span)
     }

@@ -8,13 +8,12 @@ ghost use Rattle.wac_ast_base.specs.Names.{extern_name_of, package_path_of};
 ghost use Rattle.wac_ast.specs.Statements.{document_of, statement_of};
 ghost use Rattle.wac_ast_worlds.specs.Worlds.{import_statement_of, import_type_of};
 ghost use Rattle.wac_ast.specs.Statements.{type_statement_of};
-ghost use Rattle.wac_printer_pieces.specs.Printed.{Prints};
 ghost use Rattle.wac_printer.specs.ReadBack.{IsReadBack};
 ghost use Rattle.wac_ast_grammar.specs.Leaves.{IfThere};
 ghost use Rattle.wac_printer.specs.Sliced.{DocumentSliced, PackagePathSliced, any_docs, printable};
-ghost use Rattle.wac_printer_layout.specs.Bare.{bare_document, bare_package_path, doc_lines, bare};
-ghost use Rattle.wac_printer_layout.specs.StatementLayout.{directive_layout, document_layout, export_options_layout, export_statement_layout, import_name_layout, import_statement_layout, import_type_layout, let_statement_layout, renamed_layout, statement_layout, targets_layout, type_statement_layout};
-ghost use Rattle.wac_printer_layout.specs.Parts.{spaced};
+ghost use Rattle.wac_printer_layout.specs.StatementLayout.{import_type_layout, renamed_layout, statement_layout};
+ghost use Rattle.wac_printer.specs.Forms.{PrintsBare, PrintsTree, tree_layout};
+ghost use Rattle.wac_printer.specs.Nodes.{PrintsDocument, PrintsExportOptions, PrintsExportStatement, PrintsImportName, PrintsImportStatement, PrintsLetStatement, PrintsPackageDirective, PrintsStatements, PrintsTargets, PrintsTypeStatement};
 
 use crate::laws::printed_documents_read_back;
 use crate::lists::Node;
@@ -28,7 +27,7 @@ use wac_lexer::Sink;
 use wac_printer_pieces::PrintResult;
 
 impl Node for Statement<'_> {
-    ghost layout = { λ source depth x. statement_layout depth (walk_statement (bare source) doc_lines (statement_of x)) };
+    ghost layout = { tree_layout statement_layout walk_statement statement_of };
 
     ghost sliced = { λ source x. walk_statement (printable source) any_docs (statement_of x) };
 
@@ -48,16 +47,15 @@ pub struct Page<'t, 'a> {
 }
 
 impl<'t, 'a> Model for Page<'t, 'a> {
-    ghost use Rattle.std.specs.Prelude.{[]};
     ghost use Rattle.std.specs.Coded.{codes};
     ghost use Rattle.wac_ast_types.specs.contracts.types.«Type» as ty;
     ghost use Rattle.wac_ast_expressions.specs.contracts.expr.PrimaryExpr as primary;
-    ghost use mir.Syntax.{erased};
+    ghost use Rattle.wac_printer.specs.Lent.{no_lifetime};
     ghost use Rattle.wac_ast.specs.declared.document.Document.{Document};
 
     ghost Value = { Document };
 
-    ghost coded = { Prim.hlevel (codes, (ty.the_row (record { mir = erased; lft = [] })).coded, (primary.the_row (record { mir = erased; lft = [] })).coded) };
+    ghost coded = { Prim.hlevel (codes, (ty.the_row no_lifetime).coded, (primary.the_row no_lifetime).coded) };
 
     ghost view = { λ p. p.document.now };
 
@@ -75,16 +73,16 @@ pub struct Statements<'t, 'a> {
 }
 
 impl<'t, 'a> Model for Statements<'t, 'a> {
-    ghost use Rattle.std.specs.Prelude.{List, []};
+    ghost use Rattle.std.specs.Prelude.{List};
     ghost use Rattle.std.specs.Coded.{codes};
     ghost use Rattle.wac_ast_types.specs.contracts.types.«Type» as ty;
     ghost use Rattle.wac_ast_expressions.specs.contracts.expr.PrimaryExpr as primary;
-    ghost use mir.Syntax.{erased};
+    ghost use Rattle.wac_printer.specs.Lent.{no_lifetime};
     ghost use Rattle.wac_ast.specs.declared.statement.Statement.{Statement};
 
     ghost Value = { List Statement };
 
-    ghost coded = { Prim.hlevel (codes, (ty.the_row (record { mir = erased; lft = [] })).coded, (primary.the_row (record { mir = erased; lft = [] })).coded) };
+    ghost coded = { Prim.hlevel (codes, (ty.the_row no_lifetime).coded, (primary.the_row no_lifetime).coded) };
 
     ghost view = { λ s. s.document.now.statements.items };
 
@@ -114,7 +112,7 @@ impl<'a, S: Sink> DocumentPrinter<'a, S> {
     /// blanks, TAB, CR and LF.
     pub fn document(&mut self, document: &Document<'_>) -> PrintResult
         requires { DocumentSliced self.old.source (document_of document.now) }
-        ensures prints { Prints self.old result self.new (document_layout self.old.depth (bare_document doc_lines self.old.source (document_of document.now))) }
+        ensures prints { PrintsDocument self.old result self.new (document_of document.now) }
         ensures reads_back { IsReadBack self.old result self.new (document_of document.now) }
     {
         printed_documents_read_back();
@@ -124,7 +122,7 @@ impl<'a, S: Sink> DocumentPrinter<'a, S> {
     /// Prints a document that is lent.
     pub fn page(&mut self, page: Page<'_, '_>) -> PrintResult
         requires { DocumentSliced self.old.source (document_of page) }
-        ensures { Prints self.old result self.new (document_layout self.old.depth (bare_document doc_lines self.old.source (document_of page.entry))) }
+        ensures { PrintsDocument self.old result self.new (document_of page.entry) }
     {
         let Page { document } = page;
         let statements = Statements { document };
@@ -135,7 +133,7 @@ impl<'a, S: Sink> DocumentPrinter<'a, S> {
 
     fn statements(&mut self, statements: &[Statement<'_>]) -> PrintResult
         requires { All (walk_statement (printable self.old.source) any_docs) (map statement_of statements.now) }
-        ensures { Prints self.old result self.new (spaced (statement_layout self.old.depth) (map (walk_statement (bare self.old.source) doc_lines) (map statement_of statements.now))) }
+        ensures { PrintsStatements self.old result self.new (map statement_of statements.now) }
     {
         self.spaced(statements)
     }
@@ -143,7 +141,7 @@ impl<'a, S: Sink> DocumentPrinter<'a, S> {
     /// Prints the directive that names the package, and an empty line.
     pub fn package_directive(&mut self, directive: &PackageDirective<'_>) -> PrintResult
         requires { walk_package_directive (printable self.old.source) (directive_of directive.now) }
-        ensures { Prints self.old result self.new (directive_layout self.old.depth (walk_package_directive (bare self.old.source) (directive_of directive.now))) }
+        ensures { PrintsPackageDirective self.old result self.new (directive_of directive.now) }
     {
         self.line()
             .and(self.token("package"))
@@ -157,7 +155,7 @@ impl<'a, S: Sink> DocumentPrinter<'a, S> {
 
     fn targets(&mut self, path: &Option<PackagePath<'_>>) -> PrintResult
         requires { IfThere (PackagePathSliced self.old.source) (option_map package_path_of path.now) }
-        ensures { Prints self.old result self.new (targets_layout (option_map (bare_package_path self.old.source) (option_map package_path_of path.now))) }
+        ensures { PrintsTargets self.old result self.new (option_map package_path_of path.now) }
     {
         match path {
             None => self.ready(),
@@ -172,7 +170,7 @@ impl<'a, S: Sink> DocumentPrinter<'a, S> {
     /// Prints a statement.
     pub fn statement(&mut self, statement: &Statement<'_>) -> PrintResult
         requires { walk_statement (printable self.old.source) any_docs (statement_of statement.now) }
-        ensures { Prints self.old result self.new (statement_layout self.old.depth (walk_statement (bare self.old.source) doc_lines (statement_of statement.now))) }
+        ensures { PrintsTree self.old result self.new statement_layout walk_statement (statement_of statement.now) }
     {
         match statement {
             Statement::Import(statement) => self.import_statement(statement),
@@ -185,7 +183,7 @@ impl<'a, S: Sink> DocumentPrinter<'a, S> {
     /// Prints the declaration of an interface, a world or a type.
     pub fn type_statement(&mut self, statement: &TypeStatement<'_>) -> PrintResult
         requires { walk_type_statement (printable self.old.source) any_docs (type_statement_of statement.now) }
-        ensures { Prints self.old result self.new (type_statement_layout self.old.depth (walk_type_statement (bare self.old.source) doc_lines (type_statement_of statement.now))) }
+        ensures { PrintsTypeStatement self.old result self.new (type_statement_of statement.now) }
     {
         match statement {
             TypeStatement::Interface(decl) => self.interface_decl(decl),
@@ -197,7 +195,7 @@ impl<'a, S: Sink> DocumentPrinter<'a, S> {
     /// Prints an import.
     pub fn import_statement(&mut self, statement: &ImportStatement<'_>) -> PrintResult
         requires { walk_import_statement (printable self.old.source) any_docs (import_statement_of statement.now) }
-        ensures { Prints self.old result self.new (import_statement_layout self.old.depth (walk_import_statement (bare self.old.source) doc_lines (import_statement_of statement.now))) }
+        ensures { PrintsImportStatement self.old result self.new (import_statement_of statement.now) }
     {
         self.docs(&statement.docs)
             .and(self.head("import", &statement.id))
@@ -210,7 +208,7 @@ impl<'a, S: Sink> DocumentPrinter<'a, S> {
 
     fn import_name(&mut self, name: &Option<ExternName<'_>>) -> PrintResult
         requires { IfThere (walk_extern_name (printable self.old.source)) (option_map extern_name_of name.now) }
-        ensures { Prints self.old result self.new (import_name_layout (option_map (walk_extern_name (bare self.old.source)) (option_map extern_name_of name.now))) }
+        ensures { PrintsImportName self.old result self.new (option_map extern_name_of name.now) }
     {
         match name {
             None => self.ready(),
@@ -220,7 +218,7 @@ impl<'a, S: Sink> DocumentPrinter<'a, S> {
 
     fn renamed(&mut self, name: &ExternName<'_>) -> PrintResult
         requires { walk_extern_name (printable self.old.source) (extern_name_of name.now) }
-        ensures { Prints self.old result self.new (renamed_layout (walk_extern_name (bare self.old.source) (extern_name_of name.now))) }
+        ensures { PrintsBare self.old result self.new renamed_layout walk_extern_name (extern_name_of name.now) }
     {
         self.blank(" ")
             .and(self.token("as"))
@@ -231,7 +229,7 @@ impl<'a, S: Sink> DocumentPrinter<'a, S> {
     /// Prints the type of an import.
     pub fn import_type(&mut self, ty: &ImportType<'_>) -> PrintResult
         requires { walk_import_type (printable self.old.source) any_docs (import_type_of ty.now) }
-        ensures { Prints self.old result self.new (import_type_layout self.old.depth (walk_import_type (bare self.old.source) doc_lines (import_type_of ty.now))) }
+        ensures { PrintsTree self.old result self.new import_type_layout walk_import_type (import_type_of ty.now) }
     {
         match ty {
             ImportType::Package(path) => self.package_path(path),
@@ -244,7 +242,7 @@ impl<'a, S: Sink> DocumentPrinter<'a, S> {
     /// Prints a `let`.
     pub fn let_statement(&mut self, statement: &LetStatement<'_>) -> PrintResult
         requires { walk_let_statement (printable self.old.source) any_docs (let_statement_of statement.now) }
-        ensures { Prints self.old result self.new (let_statement_layout self.old.depth (walk_let_statement (bare self.old.source) doc_lines (let_statement_of statement.now))) }
+        ensures { PrintsLetStatement self.old result self.new (let_statement_of statement.now) }
     {
         self.docs(&statement.docs)
             .and(self.head("let", &statement.id))
@@ -258,7 +256,7 @@ impl<'a, S: Sink> DocumentPrinter<'a, S> {
     /// Prints an export.
     pub fn export_statement(&mut self, statement: &ExportStatement<'_>) -> PrintResult
         requires { walk_export_statement (printable self.old.source) any_docs (export_statement_of statement.now) }
-        ensures { Prints self.old result self.new (export_statement_layout self.old.depth (walk_export_statement (bare self.old.source) doc_lines (export_statement_of statement.now))) }
+        ensures { PrintsExportStatement self.old result self.new (export_statement_of statement.now) }
     {
         self.docs(&statement.docs)
             .and(self.line())
@@ -271,7 +269,7 @@ impl<'a, S: Sink> DocumentPrinter<'a, S> {
 
     fn export_options(&mut self, options: &ExportOptions<'_>) -> PrintResult
         requires { walk_export_options (printable self.old.source) (export_options_of options.now) }
-        ensures { Prints self.old result self.new (export_options_layout (walk_export_options (bare self.old.source) (export_options_of options.now))) }
+        ensures { PrintsExportOptions self.old result self.new (export_options_of options.now) }
     {
         match options {
             ExportOptions::None => self.ready(),

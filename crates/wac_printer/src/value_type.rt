@@ -1,5 +1,5 @@
 //! Printing types.
-ghost use Rattle.std.specs.Prelude.{◌≡◌, List, [], ◌∷◌, ◌++◌, codes, map};
+ghost use Rattle.std.specs.Prelude.{◌≡◌, List, [], ◌∷◌, codes, map};
 ghost use Rattle.std.specs.List.{All, flat_map};
 ghost use Rattle.wac_ast_grammar.specs.Walk.{walk_extern_name, walk_func_type, walk_func_type_ref, walk_named_type, walk_result_list, walk_ty};
 ghost use Rattle.wac_printer_layout.specs.Bare.{bare};
@@ -11,7 +11,10 @@ ghost use Rattle.wac_printer_pieces.specs.Printed.{Prints};
 ghost use Rattle.wac_printer.specs.Sliced.{IdentSliced, printable};
 ghost use Rattle.wac_lexer.specs.Reading.{slice};
 ghost use Rattle.wac_printer_layout.specs.Parts.{space, joined};
-ghost use Rattle.wac_printer_layout.specs.TypeLayout.{async_layout, extern_name_layout, func_type_layout, func_type_ref_layout, named_type_layout, params_layout, results_layout, ty_layout};
+ghost use Rattle.wac_printer_layout.specs.TypeLayout.{async_layout, extern_name_layout, func_type_layout, named_type_layout, params_layout, results_layout, ty_layout};
+ghost use Rattle.wac_printer.specs.Forms.{PrintsBare, PrintsEach};
+ghost use Rattle.wac_printer.specs.Nodes.{PrintsFuncTypeRef};
+ghost use Rattle.wac_printer.specs.Layouts.{angled_layout, behind_comma, borrowed_layout, failing_layout, first_side_layout, second_side_layout, tuple_layout, type_layout};
 
 use crate::lists::Node;
 use crate::printer::DocumentPrinter;
@@ -33,7 +36,7 @@ impl Node for NamedType<'_> {
 impl<'a, S: Sink> DocumentPrinter<'a, S> {
     pub(crate) fn extern_name(&mut self, name: &ExternName<'_>) -> PrintResult
         requires { walk_extern_name (printable self.old.source) (extern_name_of name.now) }
-        ensures { Prints self.old result self.new (extern_name_layout (walk_extern_name (bare self.old.source) (extern_name_of name.now))) }
+        ensures { PrintsBare self.old result self.new extern_name_layout walk_extern_name (extern_name_of name.now) }
     {
         match name {
             ExternName::Ident(id) => self.ident(id),
@@ -44,7 +47,7 @@ impl<'a, S: Sink> DocumentPrinter<'a, S> {
     /// Prints a function type: `async func(x: u8) -> u8`.
     pub fn func_type(&mut self, ty: &FuncType<'_>) -> PrintResult
         requires { walk_func_type (printable self.old.source) (func_type_of ty.now) }
-        ensures { Prints self.old result self.new (func_type_layout (walk_func_type (bare self.old.source) (func_type_of ty.now))) }
+        ensures { PrintsBare self.old result self.new func_type_layout walk_func_type (func_type_of ty.now) }
     {
         self.async_keyword(ty.is_async)
             .and(self.token("func"))
@@ -55,7 +58,7 @@ impl<'a, S: Sink> DocumentPrinter<'a, S> {
     /// Prints a function type, or the name of one.
     pub fn func_type_ref(&mut self, ty: &FuncTypeRef<'_>) -> PrintResult
         requires { walk_func_type_ref (printable self.old.source) (func_type_ref_of ty.now) }
-        ensures { Prints self.old result self.new (func_type_ref_layout (walk_func_type_ref (bare self.old.source) (func_type_ref_of ty.now))) }
+        ensures { PrintsFuncTypeRef self.old result self.new (func_type_ref_of ty.now) }
     {
         match ty {
             FuncTypeRef::Func(ty) => self.func_type(ty),
@@ -77,7 +80,7 @@ impl<'a, S: Sink> DocumentPrinter<'a, S> {
     /// Prints parameters, or results with names, in parentheses.
     pub(crate) fn params(&mut self, params: &[NamedType<'_>]) -> PrintResult
         requires { All (walk_named_type (printable self.old.source)) (map named_type_of params.now) }
-        ensures { Prints self.old result self.new (params_layout (map (walk_named_type (bare self.old.source)) (map named_type_of params.now))) }
+        ensures { PrintsEach self.old result self.new params_layout walk_named_type (map named_type_of params.now) }
     {
         self.token("(")
             .and(self.joined(params))
@@ -86,7 +89,7 @@ impl<'a, S: Sink> DocumentPrinter<'a, S> {
 
     fn named_type(&mut self, named: &NamedType<'_>) -> PrintResult
         requires { walk_named_type (printable self.old.source) (named_type_of named.now) }
-        ensures { Prints self.old result self.new (named_type_layout (walk_named_type (bare self.old.source) (named_type_of named.now))) }
+        ensures { PrintsBare self.old result self.new named_type_layout walk_named_type (named_type_of named.now) }
     {
         self.ident(&named.id)
             .and(self.token(":"))
@@ -96,7 +99,7 @@ impl<'a, S: Sink> DocumentPrinter<'a, S> {
 
     fn result_list(&mut self, results: &ResultList<'_>) -> PrintResult
         requires { walk_result_list (printable self.old.source) (result_list_of results.now) }
-        ensures { Prints self.old result self.new (results_layout (walk_result_list (bare self.old.source) (result_list_of results.now))) }
+        ensures { PrintsBare self.old result self.new results_layout walk_result_list (result_list_of results.now) }
     {
         match results {
             ResultList::Empty => self.ready(),
@@ -120,7 +123,7 @@ impl<'a, S: Sink> DocumentPrinter<'a, S> {
     #[cycle(ty)]
     pub fn ty(&mut self, ty: &Type<'_>) -> PrintResult
         requires { walk_ty (printable self.old.source) (ty_of ty.now) }
-        ensures { Prints self.old result self.new (ty_layout (walk_ty (bare self.old.source) (ty_of ty.now))) }
+        ensures { PrintsBare self.old result self.new ty_layout walk_ty (ty_of ty.now) }
     {
         match ty {
             Type::U8(_) => self.token("u8"),
@@ -170,7 +173,7 @@ impl<'a, S: Sink> DocumentPrinter<'a, S> {
     #[cycle(ty)]
     fn bracketed(&mut self, keyword: &str, ty: &Type<'_>) -> PrintResult
         requires { walk_ty (printable self.old.source) (ty_of ty.now) }
-        ensures { Prints self.old result self.new (token keyword.now ∷ token (codes "<") ∷ (ty_layout (walk_ty (bare self.old.source) (ty_of ty.now)) ++ token (codes ">") ∷ [])) }
+        ensures { PrintsBare self.old result self.new (angled_layout keyword.now) walk_ty (ty_of ty.now) }
     {
         self.token(keyword)?;
         self.token("<")?;
@@ -182,7 +185,7 @@ impl<'a, S: Sink> DocumentPrinter<'a, S> {
     #[cycle(ty)]
     fn failing(&mut self, err: &Type<'_>) -> PrintResult
         requires { walk_ty (printable self.old.source) (ty_of err.now) }
-        ensures { Prints self.old result self.new (token (codes "result") ∷ token (codes "<") ∷ token (codes "_") ∷ token (codes ",") ∷ space ∷ (ty_layout (walk_ty (bare self.old.source) (ty_of err.now)) ++ token (codes ">") ∷ [])) }
+        ensures { PrintsBare self.old result self.new failing_layout walk_ty (ty_of err.now) }
     {
         self.token("result")?;
         self.token("<")?;
@@ -197,7 +200,7 @@ impl<'a, S: Sink> DocumentPrinter<'a, S> {
     #[cycle(ty)]
     fn first_side(&mut self, ok: &Type<'_>) -> PrintResult
         requires { walk_ty (printable self.old.source) (ty_of ok.now) }
-        ensures { Prints self.old result self.new (token (codes "result") ∷ token (codes "<") ∷ ty_layout (walk_ty (bare self.old.source) (ty_of ok.now))) }
+        ensures { PrintsBare self.old result self.new first_side_layout walk_ty (ty_of ok.now) }
     {
         self.token("result")?;
         self.token("<")?;
@@ -208,7 +211,7 @@ impl<'a, S: Sink> DocumentPrinter<'a, S> {
     #[cycle(ty)]
     fn second_side(&mut self, err: &Type<'_>) -> PrintResult
         requires { walk_ty (printable self.old.source) (ty_of err.now) }
-        ensures { Prints self.old result self.new (token (codes ",") ∷ space ∷ (ty_layout (walk_ty (bare self.old.source) (ty_of err.now)) ++ token (codes ">") ∷ [])) }
+        ensures { PrintsBare self.old result self.new second_side_layout walk_ty (ty_of err.now) }
     {
         self.token(",")?;
         self.blank(" ")?;
@@ -220,7 +223,7 @@ impl<'a, S: Sink> DocumentPrinter<'a, S> {
     #[cycle(ty)]
     fn tuple(&mut self, types: &[Type<'_>]) -> PrintResult
         requires { All (λ x. walk_ty (printable self.old.source) (ty_of x)) types.now }
-        ensures { Prints self.old result self.new (token (codes "tuple") ∷ token (codes "<") ∷ (joined (λ x. ty_layout (walk_ty (bare self.old.source) (ty_of x))) types.now ++ token (codes ">") ∷ [])) }
+        ensures { Prints self.old result self.new (tuple_layout self.old.source types.now) }
     {
         self.token("tuple")?;
         self.token("<")?;
@@ -232,7 +235,7 @@ impl<'a, S: Sink> DocumentPrinter<'a, S> {
     #[cycle(ty)]
     fn types(&mut self, types: &[Type<'_>]) -> PrintResult
         requires { All (λ x. walk_ty (printable self.old.source) (ty_of x)) types.now }
-        ensures { Prints self.old result self.new (joined (λ x. ty_layout (walk_ty (bare self.old.source) (ty_of x))) types.now) }
+        ensures { Prints self.old result self.new (joined (type_layout self.old.source) types.now) }
     {
         match types.split_first() {
             None => self.ready(),
@@ -246,7 +249,7 @@ impl<'a, S: Sink> DocumentPrinter<'a, S> {
     #[cycle(ty)]
     fn further_types(&mut self, types: &[Type<'_>]) -> PrintResult
         requires { All (λ x. walk_ty (printable self.old.source) (ty_of x)) types.now }
-        ensures { Prints self.old result self.new (flat_map (λ x. (token (codes ",") ∷ space ∷ []) ++ ty_layout (walk_ty (bare self.old.source) (ty_of x))) types.now) }
+        ensures { Prints self.old result self.new (flat_map (behind_comma (type_layout self.old.source)) types.now) }
     {
         self.ready()?;
         for ty in types {
@@ -258,7 +261,7 @@ impl<'a, S: Sink> DocumentPrinter<'a, S> {
     #[cycle(ty)]
     fn further_type(&mut self, ty: &Type<'_>) -> PrintResult
         requires { walk_ty (printable self.old.source) (ty_of ty.now) }
-        ensures { Prints self.old result self.new ((token (codes ",") ∷ space ∷ []) ++ ty_layout (walk_ty (bare self.old.source) (ty_of ty.now))) }
+        ensures { Prints self.old result self.new (behind_comma (type_layout self.old.source) ty.now) }
     {
         self.token(",")?;
         self.blank(" ")?;
@@ -267,7 +270,7 @@ impl<'a, S: Sink> DocumentPrinter<'a, S> {
 
     fn borrowed(&mut self, id: &Ident<'_>) -> PrintResult
         requires { IdentSliced self.old.source (ident_of id.now) }
-        ensures { Prints self.old result self.new (token (codes "borrow") ∷ token (codes "<") ∷ token (slice self.old.source id.now.span) ∷ token (codes ">") ∷ []) }
+        ensures { Prints self.old result self.new (borrowed_layout (slice self.old.source id.now.span)) }
     {
         self.token("borrow")
             .and(self.token("<"))

@@ -1,16 +1,15 @@
 //! Printing worlds.
-ghost use Rattle.std.specs.Prelude.{◌≡◌, List, ◌∷◌, codes, map};
+ghost use Rattle.std.specs.Prelude.{◌≡◌, List, map};
 ghost use Rattle.std.specs.List.{All};
 ghost use Rattle.wac_ast_grammar.specs.Walk.{walk_extern_type, walk_named_world_item, walk_world_decl, walk_world_export, walk_world_import, walk_world_include, walk_world_include_item, walk_world_item, walk_world_item_path, walk_world_ref};
 ghost use Rattle.wac_printer.specs.Sliced.{any_docs, printable};
 ghost use Rattle.wac_ast_worlds.specs.Worlds.{extern_type_of, named_world_item_of, world_decl_of, world_export_of, world_import_of, world_item_of, world_item_path_of};
 ghost use Rattle.wac_ast_uses.specs.Uses.{world_include_of};
 ghost use Rattle.wac_ast_uses.specs.Uses.{world_include_item_of, world_ref_of};
-ghost use Rattle.wac_printer_layout.specs.Printed.{token};
-ghost use Rattle.wac_printer_pieces.specs.Printed.{Prints};
-ghost use Rattle.wac_printer_layout.specs.Bare.{doc_lines, bare};
-ghost use Rattle.wac_printer_layout.specs.Parts.{space, rows, body};
-ghost use Rattle.wac_printer_layout.specs.WorldLayout.{extern_type_layout, named_world_item_layout, with_layout, world_decl_layout, world_export_layout, world_import_layout, world_include_item_layout, world_include_layout, world_item_layout, world_item_path_layout, world_ref_layout};
+ghost use Rattle.wac_printer_layout.specs.WorldLayout.{extern_type_layout, with_layout, world_decl_layout, world_include_item_layout, world_item_layout, world_ref_layout};
+ghost use Rattle.wac_printer.specs.Forms.{PrintsBare, PrintsTree, bare_layout, tree_layout};
+ghost use Rattle.wac_printer.specs.Nodes.{PrintsNamedWorldItem, PrintsRenamings, PrintsWorldExport, PrintsWorldImport, PrintsWorldInclude, PrintsWorldIncludeItem, PrintsWorldItemPath, PrintsWorldItems};
+ghost use Rattle.wac_printer.specs.Layouts.{with_rows_layout};
 
 use crate::lists::Node;
 use crate::printer::DocumentPrinter;
@@ -22,7 +21,7 @@ use wac_lexer::Sink;
 use wac_printer_pieces::PrintResult;
 
 impl Node for WorldItem<'_> {
-    ghost layout = { λ source depth x. world_item_layout depth (walk_world_item (bare source) doc_lines (world_item_of x)) };
+    ghost layout = { tree_layout world_item_layout walk_world_item world_item_of };
 
     ghost sliced = { λ source x. walk_world_item (printable source) any_docs (world_item_of x) };
 
@@ -32,7 +31,7 @@ impl Node for WorldItem<'_> {
 }
 
 impl Node for WorldIncludeItem<'_> {
-    ghost layout = { λ source depth x. world_include_item_layout depth (walk_world_include_item (bare source) (world_include_item_of x)) };
+    ghost layout = { bare_layout world_include_item_layout walk_world_include_item world_include_item_of };
 
     ghost sliced = { λ source x. walk_world_include_item (printable source) (world_include_item_of x) };
 
@@ -51,7 +50,7 @@ fn items_of<'t, 'a>(decl: &'t WorldDecl<'a>) -> &'t [WorldItem<'a>]
 #[tactic(auto, using(crate::proofs::Steps::lists))]
 fn print_items<S: Sink>(decl: &WorldDecl<'_>, printer: &mut DocumentPrinter<'_, S>) -> PrintResult
     requires { All (walk_world_item (printable printer.old.source) any_docs) (map world_item_of decl.now.items.items) }
-    ensures { Prints printer.old result printer.new (body world_item_layout printer.old.depth (map (walk_world_item (bare printer.old.source) doc_lines) (map world_item_of decl.now.items.items))) }
+    ensures { PrintsWorldItems printer.old result printer.new (map world_item_of decl.now.items.items) }
 {
     printer.body(items_of(decl))
 }
@@ -61,7 +60,7 @@ impl<'a, S: Sink> DocumentPrinter<'a, S> {
     /// Prints a world.
     pub fn world_decl(&mut self, decl: &WorldDecl<'_>) -> PrintResult
         requires { walk_world_decl (printable self.old.source) any_docs (world_decl_of decl.now) }
-        ensures { Prints self.old result self.new (world_decl_layout self.old.depth (walk_world_decl (bare self.old.source) doc_lines (world_decl_of decl.now))) }
+        ensures { PrintsTree self.old result self.new world_decl_layout walk_world_decl (world_decl_of decl.now) }
     {
         self.docs(&decl.docs)
             .and(self.head("world", &decl.id))
@@ -71,7 +70,7 @@ impl<'a, S: Sink> DocumentPrinter<'a, S> {
     /// Prints an item of a world.
     pub fn world_item(&mut self, item: &WorldItem<'_>) -> PrintResult
         requires { walk_world_item (printable self.old.source) any_docs (world_item_of item.now) }
-        ensures { Prints self.old result self.new (world_item_layout self.old.depth (walk_world_item (bare self.old.source) doc_lines (world_item_of item.now))) }
+        ensures { PrintsTree self.old result self.new world_item_layout walk_world_item (world_item_of item.now) }
     {
         match item {
             WorldItem::Use(decl) => self.use_type(decl),
@@ -85,7 +84,7 @@ impl<'a, S: Sink> DocumentPrinter<'a, S> {
     /// Prints an import of a world.
     pub fn world_import(&mut self, import: &WorldImport<'_>) -> PrintResult
         requires { walk_world_import (printable self.old.source) any_docs (world_import_of import.now) }
-        ensures { Prints self.old result self.new (world_import_layout self.old.depth (walk_world_import (bare self.old.source) doc_lines (world_import_of import.now))) }
+        ensures { PrintsWorldImport self.old result self.new (world_import_of import.now) }
     {
         self.docs(&import.docs)
             .and(self.line())
@@ -98,7 +97,7 @@ impl<'a, S: Sink> DocumentPrinter<'a, S> {
     /// Prints an export of a world.
     pub fn world_export(&mut self, export: &WorldExport<'_>) -> PrintResult
         requires { walk_world_export (printable self.old.source) any_docs (world_export_of export.now) }
-        ensures { Prints self.old result self.new (world_export_layout self.old.depth (walk_world_export (bare self.old.source) doc_lines (world_export_of export.now))) }
+        ensures { PrintsWorldExport self.old result self.new (world_export_of export.now) }
     {
         self.docs(&export.docs)
             .and(self.line())
@@ -111,7 +110,7 @@ impl<'a, S: Sink> DocumentPrinter<'a, S> {
     /// Prints what a world imports or exports.
     pub fn world_item_path(&mut self, path: &WorldItemPath<'_>) -> PrintResult
         requires { walk_world_item_path (printable self.old.source) any_docs (world_item_path_of path.now) }
-        ensures { Prints self.old result self.new (world_item_path_layout self.old.depth (walk_world_item_path (bare self.old.source) doc_lines (world_item_path_of path.now))) }
+        ensures { PrintsWorldItemPath self.old result self.new (world_item_path_of path.now) }
     {
         match path {
             WorldItemPath::Named(item) => self.named_world_item(item),
@@ -123,7 +122,7 @@ impl<'a, S: Sink> DocumentPrinter<'a, S> {
     /// Prints a name with its type: `f: func()`.
     pub fn named_world_item(&mut self, item: &NamedWorldItem<'_>) -> PrintResult
         requires { walk_named_world_item (printable self.old.source) any_docs (named_world_item_of item.now) }
-        ensures { Prints self.old result self.new (named_world_item_layout self.old.depth (walk_named_world_item (bare self.old.source) doc_lines (named_world_item_of item.now))) }
+        ensures { PrintsNamedWorldItem self.old result self.new (named_world_item_of item.now) }
     {
         self.ident(&item.id)
             .and(self.token(":"))
@@ -134,7 +133,7 @@ impl<'a, S: Sink> DocumentPrinter<'a, S> {
     /// Prints the type of an item of a world.
     pub fn extern_type(&mut self, ty: &ExternType<'_>) -> PrintResult
         requires { walk_extern_type (printable self.old.source) any_docs (extern_type_of ty.now) }
-        ensures { Prints self.old result self.new (extern_type_layout self.old.depth (walk_extern_type (bare self.old.source) doc_lines (extern_type_of ty.now))) }
+        ensures { PrintsTree self.old result self.new extern_type_layout walk_extern_type (extern_type_of ty.now) }
     {
         match ty {
             ExternType::Ident(id) => self.ident(id),
@@ -146,7 +145,7 @@ impl<'a, S: Sink> DocumentPrinter<'a, S> {
     /// Prints an `include`, with the names that change, if there are any.
     pub fn world_include(&mut self, include: &WorldInclude<'_>) -> PrintResult
         requires { walk_world_include (printable self.old.source) any_docs (world_include_of include.now) }
-        ensures { Prints self.old result self.new (world_include_layout self.old.depth (walk_world_include (bare self.old.source) doc_lines (world_include_of include.now))) }
+        ensures { PrintsWorldInclude self.old result self.new (world_include_of include.now) }
     {
         self.docs(&include.docs)
             .and(self.line())
@@ -160,7 +159,7 @@ impl<'a, S: Sink> DocumentPrinter<'a, S> {
     /// Prints the world that is included.
     pub fn world_ref(&mut self, world: &WorldRef<'_>) -> PrintResult
         requires { walk_world_ref (printable self.old.source) (world_ref_of world.now) }
-        ensures { Prints self.old result self.new (world_ref_layout (walk_world_ref (bare self.old.source) (world_ref_of world.now))) }
+        ensures { PrintsBare self.old result self.new world_ref_layout walk_world_ref (world_ref_of world.now) }
     {
         match world {
             WorldRef::Ident(id) => self.ident(id),
@@ -170,7 +169,7 @@ impl<'a, S: Sink> DocumentPrinter<'a, S> {
 
     fn with_items(&mut self, items: &[WorldIncludeItem<'_>]) -> PrintResult
         requires { All (walk_world_include_item (printable self.old.source)) (map world_include_item_of items.now) }
-        ensures { Prints self.old result self.new (with_layout self.old.depth (map (walk_world_include_item (bare self.old.source)) (map world_include_item_of items.now))) }
+        ensures { PrintsRenamings self.old result self.new with_layout (map world_include_item_of items.now) }
     {
         if items.is_empty() {
             return self.ready();
@@ -180,7 +179,7 @@ impl<'a, S: Sink> DocumentPrinter<'a, S> {
 
     fn with_rows(&mut self, items: &[WorldIncludeItem<'_>]) -> PrintResult
         requires { All (walk_world_include_item (printable self.old.source)) (map world_include_item_of items.now) }
-        ensures { Prints self.old result self.new (space ∷ token (codes "with") ∷ rows world_include_item_layout self.old.depth (map (walk_world_include_item (bare self.old.source)) (map world_include_item_of items.now))) }
+        ensures { PrintsRenamings self.old result self.new with_rows_layout (map world_include_item_of items.now) }
     {
         self.blank(" ")
             .and(self.token("with"))
@@ -189,7 +188,7 @@ impl<'a, S: Sink> DocumentPrinter<'a, S> {
 
     fn world_include_item(&mut self, item: &WorldIncludeItem<'_>) -> PrintResult
         requires { walk_world_include_item (printable self.old.source) (world_include_item_of item.now) }
-        ensures { Prints self.old result self.new (world_include_item_layout self.old.depth (walk_world_include_item (bare self.old.source) (world_include_item_of item.now))) }
+        ensures { PrintsWorldIncludeItem self.old result self.new (world_include_item_of item.now) }
     {
         self.line()
             .and(self.ident(&item.from))
