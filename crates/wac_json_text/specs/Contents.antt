@@ -1,5 +1,5 @@
 -- What the parts of the writer put: forms without what they begin and end with, and the contents of variants.
-use Rattle.std.specs.Prelude.{ℕ, List, [], ◌∷◌, ◌++◌, codes, decimal}
+use Rattle.std.specs.Prelude.{ℕ, List, [], ◌∷◌, ◌++◌, codes, decimal, map}
 use Rattle.json.specs.Print.{escape}
 use Rattle.serde_json.specs.Data.{Data}
 use Rattle.wac_lexer.specs.Span.{Span}
@@ -7,8 +7,13 @@ use Rattle.wac_ast_grammar.specs.Tree as tree
 use Rattle.wac_ast_grammar.specs.Tree.{types_from}
 use Rattle.wac_ast_expressions.specs.Expressions.{argument_of}
 use Rattle.wac_ast_expressions.specs.declared.expr.InstantiationArgument.{InstantiationArgument}
+use Rattle.wac_ast_worlds.specs.Worlds.{world_item_of}
+use Rattle.wac_ast_worlds.specs.declared.world.WorldItem.{WorldItem}
+use Rattle.wac_ast.specs.Statements.{document_of}
+use Rattle.wac_ast.specs.declared.document.Document.{Document}
 use Rattle.wac_printer_layout.specs.Printed.{Piece, blank}
-use Rattle.wac_json_forms.specs.Forms.{argument_json, argument_name_json, expr_json, object_of, optional_ty_json, span_json, ty_json, variant}
+use Rattle.wac_json_forms.specs.Forms.{argument_json, argument_name_json, expr_json, json_text, list_json, object_of, optional_ty_json}
+use Rattle.wac_json_forms.specs.Forms.{span_json, ty_json, variant, world_item_json}
 use Rattle.wac_json_text.specs.Pieces.{pieces}
 
 -- ---- forms without what they begin and end with
@@ -72,3 +77,13 @@ abbrev pub named_json : tree.Expr → tree.InstantiationArgumentName → Data
 named_json value name =
     variant (codes "named")
     (object_of ((codes "expr", expr_json value) ∷ (codes "name", argument_name_json name) ∷ []))
+
+-- ---- worlds and documents
+
+-- the items of a world, in a list
+abbrev pub world_items_pieces : List WorldItem → List Piece
+world_items_pieces items = pieces (list_json world_item_json (map world_item_of items))
+
+-- the text of a page: its document's form
+abbrev pub page_text : Document → List ℕ
+page_text page = json_text (document_of page)

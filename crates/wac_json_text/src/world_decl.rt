@@ -1,9 +1,7 @@
 //! Worlds.
-ghost use Rattle.std.specs.Prelude.{◌≡◌, map};
-ghost use Rattle.wac_ast_worlds.specs.Worlds.{world_item_of};
+ghost use Rattle.std.specs.Prelude.{◌≡◌};
 ghost use Rattle.wac_printer_pieces.specs.Printed.{Prints};
-ghost use Rattle.wac_json_forms.specs.Forms.{list_json, world_item_json};
-ghost use Rattle.wac_json_text.specs.Pieces.{pieces};
+ghost use Rattle.wac_json_text.specs.Contents.{world_items_pieces};
 
 use crate::form::{Enclosed, Json};
 use crate::parts::{enclosed, list, variant};
@@ -66,7 +64,7 @@ fn items_of<'t, 'a>(decl: &'t WorldDecl<'a>) -> &'t [WorldItem<'a>]
 
 /// Writes the items of a world, which comes first: the prover's work grows with the number of lifetimes before its own.
 fn write_items<S: Sink>(decl: &WorldDecl<'_>, out: &mut Pieces<'_, S>) -> PrintResult
-    ensures { Prints out.old result out.new (pieces (list_json world_item_json (map world_item_of decl.now.items.items))) }
+    ensures { Prints out.old result out.new (world_items_pieces decl.now.items.items) }
 {
     list(items_of(decl), out)
 }

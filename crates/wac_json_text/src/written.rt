@@ -2,7 +2,8 @@
 ghost use Rattle.std.specs.Prelude.{◌≡◌, ◌+◌, ◌++◌, ℕ, List, [], OnOk, OnErr, map};
 ghost use Rattle.wac_ast.specs.Statements.{document_of, statement_of};
 ghost use Rattle.wac_printer_pieces.specs.Printed.{Prints};
-ghost use Rattle.wac_json_forms.specs.Forms.{json_of, json_text, list_json, statement_json};
+ghost use Rattle.wac_json_forms.specs.Forms.{json_of, list_json, statement_json};
+ghost use Rattle.wac_json_text.specs.Contents.{page_text};
 ghost use Rattle.wac_json_text.specs.Pieces.{pieces, IsBegun};
 
 use crate::form::{Enclosed, Json};
@@ -19,9 +20,9 @@ use wac_printer_pieces::{Pieces, PrintResult};
 ///
 /// After an error the sink holds a prefix of the text, and not the whole.
 pub fn write_json<S: Sink>(page: Page<'_, '_>, writer: &mut S) -> PrintResult
-    ensures written { OnOk result (S.bytes writer.new ≡ S.bytes writer.old ++ json_text (document_of page.entry)) }
+    ensures written { OnOk result (S.bytes writer.new ≡ S.bytes writer.old ++ page_text page.entry) }
     ensures works { OnOk result (S.failures writer.new ≡ S.failures writer.old) }
-    ensures began { OnErr result (IsBegun (S.bytes writer.old) (S.bytes writer.new) (json_text (document_of page.entry))) }
+    ensures began { OnErr result (IsBegun (S.bytes writer.old) (S.bytes writer.new) (page_text page.entry)) }
     ensures failed { OnErr result (S.failures writer.new ≡ S.failures writer.old + 1) }
 {
     let mut out = Pieces::new(writer, "", None);

@@ -1,5 +1,5 @@
 //! Formatting texts.
-ghost use Rattle.std.specs.Prelude.{◌≡◌, ◌⊎◌, IfOk, IfErr, MatchResult, alloc_error, string_bytes};
+ghost use Rattle.std.specs.Prelude.{◌≡◌, ◌⊎◌, IfOk, IfErr, alloc_error, string_bytes};
 ghost use Rattle.wac_ast_grammar.specs.Tree.{Document as Tree};
 ghost use Rattle.wac_ast_grammar.specs.TextTree.{IsTreeOf};
 ghost use Rattle.wac_ast.specs.Document.{ErrorOf};
@@ -7,9 +7,10 @@ ghost use Rattle.wac_ast_base.specs.Error.{told_by};
 ghost use Rattle.wac_ast.specs.Statements.{document_of};
 ghost use Rattle.wac_ast_base.specs.declared.error.Error.TheVariants.{Memory};
 ghost use Rattle.wac_printer_layout.specs.Joins.{AreBlanks};
-ghost use Rattle.wac_printer_layout.specs.Reread.{IsFixed, printed, ReadsBack, WasPrinted};
+ghost use Rattle.wac_printer_layout.specs.Reread.{printed, WasPrinted};
 ghost use Rattle.wac_printer_pieces.specs.Printed.{space_of};
 ghost use Rattle.wac_printer.specs.Sliced.{DocumentSliced};
+ghost use Rattle.wac_parser_formatting.specs.Formatted.{IsStable, PrintsOne, PrintsTree, ReturnsReadable};
 
 use std::alloc::{AllocError, Global};
 use wac_ast::{Document, Error, ParseResult};
@@ -24,14 +25,14 @@ use wac_printer_layout::{printed_texts_read_back, printed_texts_stay};
 /// keep their lines. Memory is taken for the tree and for the text.
 pub fn format(alloc: Global, source: &str, space: Option<&str>) -> ParseResult<String>
     // What is returned is printed of the text's tree.
-    ensures found { IfOk result (λ text. (tree : Tree) × IsTreeOf source.now tree × (string_bytes text ≡ printed (space_of space.entry) source.now tree)) }
+    ensures found { PrintsOne (space_of space.entry) source.now result }
     // Where the text has a tree, it is printed, unless memory runs out.
-    ensures only { (tree : Tree) → IsTreeOf source.now tree → MatchResult result (λ text. string_bytes text ≡ printed (space_of space.entry) source.now tree) (λ e. e ≡ Memory alloc_error) }
+    ensures only { (tree : Tree) → IsTreeOf source.now tree → PrintsTree (space_of space.entry) source.now tree result }
     // Where blanks are written for a depth, the printed text reads back as the same
     // document, and is fixed from the second time on.
-    ensures again { AreBlanks (space_of space.entry) → IfOk result (λ text. (tree : Tree) × IsTreeOf source.now tree × ReadsBack (space_of space.entry) source.now tree (string_bytes text)) }
+    ensures again { AreBlanks (space_of space.entry) → ReturnsReadable (space_of space.entry) source.now result }
     // Where the source was itself printed, what is returned has a tree that is printed as the result.
-    ensures fixed { AreBlanks (space_of space.entry) → WasPrinted source.now → IfOk result (λ text. IsFixed (space_of space.entry) (string_bytes text)) }
+    ensures fixed { AreBlanks (space_of space.entry) → WasPrinted source.now → IsStable (space_of space.entry) result }
     // An error reports the first place where no document continues.
     ensures error { IfErr result (λ e. (e ≡ Memory alloc_error) ⊎ ErrorOf (told_by e) source.now) }
 {
