@@ -7,10 +7,6 @@ use Rattle.wac_components_bytes.specs.Leb128.{IsLeb128}
 abbrev pub unread : Reader → List ℕ
 unread reader = drop reader.position (take reader.end reader.bytes.now)
 
--- one reader is at the place of another, in the same bytes and up to the same end
-abbrev pub IsAtPlace : Reader → Reader → Type 0
-IsAtPlace old new = (new.bytes.now ≡ old.bytes.now) × (new.position ≡ old.position) × (new.end ≡ old.end)
-
 -- between the two the reader read such bytes, and no more
 pub record Reads (before : List ℕ) (such : List ℕ → Type 0) (after : List ℕ) : Type 0 where
   pub bytes : List ℕ

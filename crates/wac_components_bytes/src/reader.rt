@@ -1,6 +1,5 @@
 //! A reader of bytes that counts its work.
 ghost use Rattle.std.specs.Prelude.{◌≡◌, ◌+◌, ◌-◌, ◌<◌, ◌≤◌, length, IfErr, OnErr, OnOk};
-ghost use Rattle.wac_components_bytes.specs.Reading.{IsAtPlace};
 
 mod numbers;
 mod pieces;
@@ -86,7 +85,8 @@ impl<'a> Reader<'a> {
         ensures err { IfErr result (λ e. e ≡ record { kind = ErrorKind.Work; offset = offset }) }
         ensures short { OnErr result (self.old.work < units) }
         ensures work { self.new.work ≤ self.old.work }
-        ensures place { IsAtPlace self.old self.new }
+        ensures bytes { self.new.bytes.now ≡ self.old.bytes.now }
+        ensures place { (self.new.position ≡ self.old.position) × (self.new.end ≡ self.old.end) }
     {
         if units <= self.work {
             self.work -= units;
