@@ -27,7 +27,7 @@ abbrev pub DerivesBehind : {R E : Type 0} → (Reading → Result R E → Readin
     → Result (Option R) E → Reading → Reading → Type 0
 DerivesBehind {R} calls result old new = (s : Sym) (view : R → TreeOf s)
     → ((before : Reading) (x : R) (after : Reading) → calls before (Ok x) after
-        → Consumed s (left before) (left after) (view x))
+    → Consumed s (left before) (left after) (view x))
     → IfOk result (λ o. IfSome o (λ x. Consumed s (behind_first (left old)) (left new) (view x)))
 
 -- Where neither the token nor a fault is next, nothing is given and nothing is taken.
