@@ -14,7 +14,7 @@ impl<'t, 'a> Model for Statements<'t, 'a> {
     ghost use Rattle.std.specs.Prelude.{List, []};
     ghost use Rattle.std.specs.Coded.{codes};
     ghost use Rattle.wac_ast_types.specs.contracts.types.«Type» as ty;
-    ghost use Rattle.wac_ast_expressions.specs.contracts.expr.PrimaryExpr as primary;
+    ghost use Rattle.wac_ast_statements.specs.contracts.expr.PrimaryExpr as primary;
     ghost use mir.Syntax.{erased};
     ghost use Rattle.wac_ast.specs.declared.statement.Statement.{Statement};
 

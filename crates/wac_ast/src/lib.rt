@@ -13,15 +13,15 @@ pub use wac_ast_base::{
     DocComment, Error, ExternName, Ident, Lookahead, PackageName, PackagePath, ParseResult,
     SegmentSpans, String, parse_optional, parse_token,
 };
-pub use wac_ast_expressions::{
-    AccessExpr, Expr, InstantiationArgument, InstantiationArgumentName, NamedAccessExpr,
-    NamedInstantiationArgument, NestedExpr, NewExpr, PostfixExpr, PrimaryExpr,
-};
 pub use wac_ast_grammar::{
     arguments_are_refused_at_first_faults, refusals_lie_at_first_faults, tokens_have_texts,
     trees_end_where_they_must, trees_stand_in_their_text, what_is_read_derives,
 };
-pub use wac_ast_statements::{ExportOptions, ExportStatement, LetStatement, PackageDirective};
+pub use wac_ast_statements::{
+    AccessExpr, ExportOptions, ExportStatement, Expr, InstantiationArgument,
+    InstantiationArgumentName, LetStatement, NamedAccessExpr, NamedInstantiationArgument,
+    NestedExpr, NewExpr, PackageDirective, PostfixExpr, PrimaryExpr,
+};
 pub use wac_ast_types::{
     Constructor, EnumCase, EnumDecl, Field, Flag, FlagsDecl, FuncType, FuncTypeRef, ItemTypeDecl,
     Method, NamedType, RecordDecl, ResourceDecl, ResourceMethod, ResultList, Type, TypeAlias,

@@ -1,1 +1,5 @@
 pub mod Built
+pub mod Common
+pub mod Spans
+pub mod ArgumentParts
+pub mod ExprViews

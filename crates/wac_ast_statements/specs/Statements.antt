@@ -9,7 +9,7 @@ use Rattle.wac_ast_statements.specs.declared.export.ExportStatement.{ExportState
 use Rattle.wac_ast_statements.specs.declared.let_statement.LetStatement.{LetStatement as CodeLetStatement}
 use Rattle.wac_ast_statements.specs.declared.directive.PackageDirective.{PackageDirective as CodePackageDirective}
 use Rattle.wac_ast_base.specs.Names.{doc_comment_of, ident_of, package_path_of, extern_name_of, package_name_of}
-use Rattle.wac_ast_expressions.specs.Expressions.{expr_of}
+use Rattle.wac_ast_statements.specs.Expressions.{expr_of}
 
 abbrev pub export_options_of : CodeExportOptions → tree.ExportOptions
 export_options_of options.None = ExportOptions.none

@@ -5,13 +5,13 @@ ghost use Rattle.wac_ast_grammar.specs.Reading.{begins};
 ghost use Rattle.wac_ast_base.specs.Lookahead.{Peeks};
 ghost use Rattle.wac_ast_statements.specs.Statements.{let_statement_of};
 
+use crate::Expr;
 use std::alloc::Global;
 use std::fmt;
 use wac_ast_base::{
     DocComment, Error, Ident, Lookahead, Parse, ParseResult, Peek, parse_before, parse_docs,
     take_token,
 };
-use wac_ast_expressions::Expr;
 use wac_lexer::{Lexer, Token};
 
 /// A binding of a name to an expression.

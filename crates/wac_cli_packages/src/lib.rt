@@ -3,16 +3,19 @@
 //! [`check_with_packages`] is `wacx check --packages`, [`list_packages`] is `wacx packages`,
 //! [`show_graph_with_packages`] is `wacx graph --packages`, and [`check_target`] is `wacx targets`. Documents declare
 //! packages, or components have them; `docs/PACKAGES.md` says how. [`show_graph`] is `wacx graph` without packages, of a
-//! document that mentions no foreign one.
+//! document that mentions no foreign one, and [`show_package`] is `wacx package`.
 #![tactic(auto)]
 
 mod checking;
+mod errors;
+mod forms;
 mod graphing;
 mod graphs;
 mod listing;
 mod options;
 mod reading;
 mod showing;
+mod showing_package;
 mod sources;
 mod supply;
 mod targets;
@@ -20,9 +23,12 @@ mod verdicts;
 mod worlds;
 
 pub use checking::check_with_packages;
+pub use forms::PackageForm;
 pub use graphing::show_graph_with_packages;
 pub use listing::list_packages;
 pub use options::Given;
 pub use showing::show_graph;
+pub use showing_package::show_package;
 pub use targets::check_target;
+pub use wac_components_words::is_key as is_package_key;
 pub use wac_graph_outputs::Form;

@@ -3,9 +3,9 @@ use crate::options::Setting;
 use crate::verdicts::first_error_of;
 use std::alloc::{AllocError, Global};
 use wac_component_reading::with_implied_imports;
+use wac_declared_packages::{DefinitionsError, package_of};
 use wac_diagnostics::Diagnostic;
 use wac_graph::{CompositionGraph, ItemKind, Package, PackageError, Type};
-use wac_graph_packages::{DefinitionsError, package_of};
 use wac_package_errors::Composed;
 
 /// A package whose world a component is to fit, and the world's name; or what is wrong with its document.

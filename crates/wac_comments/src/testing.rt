@@ -12,7 +12,7 @@ use crate::error::TidyError;
 use std::alloc::{AllocError, Global};
 use wac_ast_base::Error;
 use wac_comments_layout::{Piece, ReadError, read, stand_in};
-use wac_parser_formatting::format;
+use wac_printer::format;
 
 /// Whether the piece at an index has this text.
 fn has_text(pieces: &[Piece<'_>], index: usize, text: &str) -> bool

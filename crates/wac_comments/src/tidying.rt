@@ -22,7 +22,7 @@ use wac_comments_layout::{
     Piece, ReadError, Style, lay_out, plain, printed, read, too_deep, too_deep_among,
 };
 use wac_lexer::SourceSpan;
-use wac_parser_formatting::format;
+use wac_printer::format;
 
 /// Prints the document of a text in the one layout, with every comment of the text in its place.
 ///

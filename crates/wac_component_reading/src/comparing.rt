@@ -6,7 +6,7 @@ ghost use Rattle.wac_graph_types.specs.Table.{Names};
 use crate::defined::{has_root_alone, with_exported_definitions};
 use crate::implied::with_implied_imports;
 use std::alloc::{AllocError, Global};
-use wac_component_mismatch::mismatch;
+use wac_component_rules::mismatch;
 use wac_graph::{CompositionGraph, ItemKind, Package, PackageError, PackageKey, Type, WorldId};
 
 /// As what two worlds are compared.

@@ -2,8 +2,7 @@
 
 use indexmap::IndexMap;
 use std::alloc::{AllocError, Global};
-use wac_graph::{Interface, InterfaceId, ItemKind, Package, Types};
-use wac_graph_copies::copy_types;
+use wac_graph::{Interface, InterfaceId, ItemKind, Package, Types, copy_types};
 
 /// A copy of a package's table.
 pub(crate) fn copied_types(alloc: Global, package: &Package) -> Result<Types, AllocError> {

@@ -9,3 +9,5 @@ pub mod Measures
 pub mod Aliases
 pub mod Compared
 pub mod Stand
+pub mod Slots
+pub mod Steps

@@ -6,3 +6,5 @@ pub mod Sides
 pub mod Compared
 pub mod Renaming
 pub mod Own
+pub mod Paths
+pub mod Told

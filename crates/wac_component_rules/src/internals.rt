@@ -1,4 +1,4 @@
-//! What `wac_component_mismatch` and `wac_composition` read of kinds. It is of no use to others, and may change.
+//! What `wac_component_rules` and `wac_composition` read of kinds. It is of no use to others, and may change.
 
 pub use crate::fitting::{fits_after, fitting};
 pub use crate::found::Found;

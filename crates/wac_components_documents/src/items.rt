@@ -8,8 +8,7 @@ use crate::resources::Members;
 use crate::scope::{Entry, Kind, Scope, View};
 use crate::writer::Writer;
 use indexmap::{IndexMap, IndexSet};
-use wac_components_names::Origin;
-use wac_components_types::{NameId, Table, TypeId};
+use wac_components_types::{NameId, Origin, Table, TypeId};
 
 /// Where a body stands: the key of its package, and which types of which interfaces aren't written.
 pub(crate) struct Home {

@@ -6,8 +6,7 @@ use crate::scope::{Kind, View};
 use crate::steps::Steps;
 use indexmap::IndexSet;
 use std::alloc::Global;
-use wac_components_names::origin_of;
-use wac_components_types::{NameId, Parts, Table, TypeDef, TypeId};
+use wac_components_types::{NameId, Parts, Table, TypeDef, TypeId, origin_of};
 
 /// The names that were met, and the types that are still to be looked at.
 pub(crate) struct Mentions {

@@ -3,8 +3,7 @@
 use crate::fault::{Fault, Reason};
 use crate::line::Line;
 use crate::scope::View;
-use wac_components_names::origin_of;
-use wac_components_types::{Func, NameId, Part, Parts, Table, TypeDef, TypeId};
+use wac_components_types::{Func, NameId, Part, Parts, Table, TypeDef, TypeId, origin_of};
 use wac_graph_types::PrimitiveType;
 
 /// What is to be written of a type.

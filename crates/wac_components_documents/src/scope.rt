@@ -3,8 +3,10 @@
 use crate::fault::{Fault, Reason};
 use indexmap::{IndexMap, IndexSet};
 use std::alloc::{AllocError, Global};
-use wac_components_names::{Names, Origin, Reference, reference_of};
-use wac_components_types::{ComponentId, InstanceId, Item, NameId, Owner, Table, TypeDef, TypeId};
+use wac_components_types::{
+    ComponentId, InstanceId, Item, NameId, Names, Origin, Owner, Reference, Table, TypeDef, TypeId,
+    reference_of,
+};
 
 /// What an item is.
 #[derive(Clone, Copy)]

@@ -5,9 +5,9 @@ use indexmap::IndexSet;
 use std::alloc::{AllocError, AllocFailed, Global};
 use std::fmt;
 use wac_components::Decoded;
-use wac_components_names::{Names, Origin, Reference, origin_of, reference_of};
 use wac_components_types::{
-    ComponentId, Func, InstanceId, Item, NameId, Named, Owner, Part, Parts, Table, TypeDef, TypeId,
+    ComponentId, Func, InstanceId, Item, NameId, Named, Names, Origin, Owner, Part, Parts,
+    Reference, Table, TypeDef, TypeId, origin_of, reference_of,
 };
 
 /// Why no JSON is made.

@@ -2,7 +2,7 @@
 use Rattle.wac_declared_packages.proofs.Common.{◌≡◌, ◌∙◌, ◌⊎◌, List, [], ◌∷◌, Option, Some, None, Bool, true, false, cond, inl, inr, is_some, refl, sym, ap, subst, PackageParts, Key, key_of, same_key, PackageKey, keys_same, other_key, keyed_found}
 use Rattle.std.specs.Map.{lookup}
 use Rattle.wac_graph.specs.contracts.package_key.PackageKeyPartialEq.TheImpl as keys
-use Rattle.wac_graph_packages.specs.Packages.{IsCopy}
+use Rattle.wac_declared_packages.specs.Packages.{IsCopy}
 use Rattle.wac_declared_packages.specs.Together.{AreCopiesOf, HasMentioned, IsThere, Puts, Supplies, found, under}
 
 some_where : {X : Type 0} (b : Bool) (x : X) → is_some (cond b (Some x) None) ≡ b

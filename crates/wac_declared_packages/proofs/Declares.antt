@@ -4,7 +4,7 @@ use Rattle.std.specs.declared.alloc.Global.{Global}
 use denote.Bor.{Bor}
 use Rattle.wac_ast_grammar.specs.Tree.{Document}
 use Rattle.wac_graph.specs.Graph.{Parts}
-use Rattle.wac_graph_packages.specs.Definitions.{AreExported, HasWorld}
+use Rattle.wac_declared_packages.specs.Definitions.{AreExported, HasWorld}
 use Rattle.wac_graph_types.specs.Growth.{KeepsMeanings}
 use Rattle.wac_declared_packages.specs.Declaring.{IsDeclaredBy, IsGraphOf}
 use Rattle.wac_declared_packages.specs.Refusing.{IsDeclaration}

@@ -4,3 +4,7 @@ mod Declares
 mod First
 mod Refuses
 mod Texts
+mod Assembling
+mod Choosing
+mod Defining
+mod Unmoved

@@ -5,14 +5,14 @@ use Rattle.wac_graph_types.specs.Package.{PackageParts}
 use Rattle.wac_graph_types.specs.Scope.{Named}
 use Rattle.wac_graph.specs.declared.package_key.PackageKey.{PackageKey}
 use Rattle.wac_graph.specs.Graph.{Parts}
-use Rattle.wac_graph_packages.specs.Definitions.{AreExported, HasWorld}
+use Rattle.wac_declared_packages.specs.Definitions.{AreExported, HasWorld}
 use Rattle.wac_ast_grammar.specs.Tree.{Document}
 use Rattle.wac_resolution_errors.specs.Error.{Reports}
 use Rattle.wac_resolution_errors.specs.Told.{told}
 use Rattle.wac_resolution_errors.specs.declared.error.Error.{Error as ResolutionError}
 use Rattle.wac_resolution_rules.specs.Given.{Rules}
 use Rattle.wac_resolution_rules.specs.ResolvedDocument.{Describes, EveryNaming, FirstFailing, given_to}
-use Rattle.wac_resolution_nodes.specs.Nodes.{composition_of}
+use Rattle.wac_resolution_state.specs.Nodes.{composition_of}
 use Rattle.wac_resolution.specs.Resolved.{by_key}
 use Rattle.wac_declared_packages.specs.declared.error.DeclarationError.{DeclarationError}
 use Rattle.wac_declared_packages.specs.declared.error.DeclarationError.TheVariants as errors

@@ -8,7 +8,7 @@ use Rattle.wac_ast_grammar.specs.Tree.{Document}
 use Rattle.wac_graph_types.specs.Package.{PackageParts}
 use Rattle.wac_graph.specs.declared.package_key.PackageKey.{PackageKey}
 use Rattle.wac_graph.specs.Package.{Key, key_of, same_key}
-use Rattle.wac_graph_packages.specs.Packages.{IsCopy}
+use Rattle.wac_declared_packages.specs.Packages.{IsCopy}
 use Rattle.wac_resolution_rules.specs.Given.{key_named}
 use Rattle.wac_declared_packages.specs.Declaring.{IsDeclaredBy}
 use Rattle.wac_declared_packages.specs.Refusing.{IsDeclaration}

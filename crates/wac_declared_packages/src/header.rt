@@ -17,8 +17,8 @@ use wac_ast::{Document, PackageDirective, PackageName, Statement};
 use wac_graph::PackageKey;
 use wac_lexer::{Lexer, SourceSpan};
 use wac_printer::Page;
-use wac_resolution_mentions::packages;
-use wac_resolution_paths::package_key;
+use wac_resolution::packages;
+use wac_resolution_state::package_key;
 
 /// What a text says of itself: the package that it declares, and those that it mentions.
 #[derive(Drop)]

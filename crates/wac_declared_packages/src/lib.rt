@@ -8,24 +8,31 @@
 //!
 //! [`declared_package`] makes the package that one document declares, and [`declared_packages`] those of many, in any
 //! order; [`declare_all`] goes on behind an error. `docs/PACKAGES.md` says what such documents are, and how to go from
-//! WIT to them.
+//! WIT to them. [`package_of`] makes a package of the definitions of a graph, and [`copied_package`] one of another.
 #![tactic(auto)]
 
 mod causes;
+mod copies;
 mod cycles;
 mod declaration;
+mod definitions;
+mod definitions_error;
 mod ending;
 mod error;
 mod header;
 mod making;
 mod many;
 mod outlines;
+mod package;
 mod rules;
 mod sources;
 mod supplying;
+mod worlds;
 
+pub use copies::copied_package;
 pub use declaration::declared_package;
+pub use definitions_error::DefinitionsError;
 pub use error::{DeclarationError, DeclarationFault};
 pub use many::{Declared, declare_all, declared_packages};
+pub use package::package_of;
 pub use supplying::supplied_packages;
-pub use wac_graph_packages::copied_package;

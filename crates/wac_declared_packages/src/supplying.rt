@@ -3,10 +3,10 @@ ghost use Rattle.std.specs.Prelude.{◌≡◌, IfOk, OnOk, Some, is_some, option
 ghost use Rattle.wac_graph.specs.Package.{key_of as key_in};
 ghost use Rattle.wac_declared_packages.specs.Together.{AreCopiesOf, HasMentioned, Puts, Supplies, found as found_under};
 
+use crate::copied_package;
 use indexmap::IndexMap;
 use std::alloc::{AllocError, Global};
 use wac_graph::{Package, PackageError, PackageKey};
-use wac_graph_packages::copied_package;
 use wac_lexer::SourceSpan;
 
 /// The package of a key.

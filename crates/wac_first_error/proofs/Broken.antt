@@ -11,7 +11,7 @@ use Rattle.wac_resolution_errors.specs.Error.{NamesRule}
 use Rattle.wac_resolution_errors.specs.Told.{told}
 use Rattle.wac_resolution_errors.specs.declared.error.Error.{Error}
 use Rattle.wac_resolution_errors.specs.declared.error.Error.TheVariants as errors
-use Rattle.wac_resolution_nodes.specs.Nodes.{composition_of}
+use Rattle.wac_resolution_state.specs.Nodes.{composition_of}
 use Rattle.wac_tool_graphs.specs.Alone.{BreaksRule, IsComposition, same_rules}
 
 -- an error that isn't out of memory names a rule

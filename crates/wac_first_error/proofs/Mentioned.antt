@@ -4,8 +4,8 @@ use Rattle.std.specs.Prelude.{IsTrue, not}
 use Rattle.wac_graph.specs.declared.package_key.PackageKey.{PackageKey}
 use Rattle.wac_lexer.specs.Span.{Span}
 use Rattle.wac_resolution_rules.specs.Mentions.{Mention}
-use Rattle.wac_resolution_mentions.specs.FirstMentions.{first_mentions}
-use Rattle.wac_resolution_mentions.specs.Noted.{mentions_in}
+use Rattle.wac_resolution.specs.FirstMentions.{first_mentions}
+use Rattle.wac_resolution.specs.Noted.{mentions_in}
 use Rattle.wac_first_error.specs.Mentioned.{is_any}
 
 pub any_mentioned : (es : List (PackageKey × Span)) (ms : List Mention) (empty : Bool) → mentions_in es ≡ first_mentions ms

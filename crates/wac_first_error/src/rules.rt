@@ -9,8 +9,7 @@ ghost use Rattle.wac_first_error.specs.Mentioned.{mentions_foreign};
 use indexmap::IndexMap;
 use std::alloc::{AllocError, Global};
 use wac_printer::Page;
-use wac_resolution::{ResolutionResult, resolve};
-use wac_resolution_mentions::packages;
+use wac_resolution::{ResolutionResult, packages, resolve};
 use wac_tool_graphs::SameRules;
 
 /// Whether a document mentions foreign packages. The error is that memory ran out.

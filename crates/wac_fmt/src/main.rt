@@ -5,7 +5,7 @@ use std::io::{self, ErrorKind, Write};
 use std::process::ExitCode;
 use wac_ast::Error;
 use wac_lexer::SourceSpan;
-use wac_parser_formatting::format;
+use wac_printer::format;
 
 /// Why no formatted text was written.
 #[derive(Debug, Drop)]

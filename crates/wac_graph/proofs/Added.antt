@@ -1,5 +1,6 @@
 -- What is added to a table is what was meant.
-use Rattle.wac_graph.proofs.Common.{◌≡◌, ◌∙◌, ℕ, [], ◌∷◌, ◌++◌, length, ap, slice_get, Entry, children, EachKind, PackageParts, IsPackage, Names, IsGrownBy, MeansTheSame}
+use Rattle.wac_graph.proofs.Common.{◌≡◌, ◌∙◌, ℕ, [], ◌∷◌, ◌++◌, length, ap, slice_get, Entry, children, EachKind, PackageParts, IsPackage, Names}
+use Rattle.wac_graph.specs.Copied.{IsGrownBy, MeansTheSame}
 use Rattle.wac_graph.specs.Adds.{Adds, AddsPackage}
 use Rattle.wac_graph.specs.Graph.{Parts, with_entry, with_package}
 use Rattle.wac_graph.specs.Means.{CopiesMean}

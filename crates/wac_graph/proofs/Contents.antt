@@ -1,5 +1,6 @@
 -- A package that is copied in keeps its contents.
-use Rattle.wac_graph.proofs.Common.{◌≡◌, ◌∙◌, ap, ℕ, List, [], ◌∷◌, length, refl, map, ItemKind, Meaning, meaning, PackageParts, IsPackage, Named, items_mean, ItemsNamed, package_world, package_instance, package_definitions, moved, moved_items}
+use Rattle.wac_graph.proofs.Common.{◌≡◌, ◌∙◌, ap, ℕ, List, [], ◌∷◌, length, refl, map, ItemKind, Meaning, meaning, PackageParts, IsPackage, Named, items_mean, ItemsNamed, package_world, package_instance, package_definitions}
+use Rattle.wac_graph.specs.Moved.{moved, moved_items}
 use Rattle.wac_graph_types.specs.declared.kind.ItemKind.TheVariants as kinds
 use Rattle.wac_graph.specs.Graph.{Parts}
 use Rattle.wac_graph.specs.Means.{means, entry_means, CopiesMean, KeepsKinds}

@@ -18,3 +18,8 @@ pub mod Lists
 pub mod NamedNodes
 pub mod Keeping
 pub mod Stays
+pub mod Views
+pub mod Copying
+pub mod Copies
+pub mod Growing
+pub mod Fitting

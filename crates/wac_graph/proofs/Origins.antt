@@ -1,5 +1,8 @@
 -- Where resources come from, as a graph grows.
-use Rattle.wac_graph.proofs.Common.{◌≡◌, ◌∙◌, ◌<◌, ◌≤◌, ◌+◌, ◌-◌, ℕ, zero, suc, Option, Some, None, List, [], ◌∷◌, ◌++◌, length, take, refl, sym, ap, arith, Bool, true, false, cond, ◌&&◌, append-nil, slice_get, nat_le, nat_lt, option_map, AllByRecursion, lt-ltb, le-ltb, nat_tests, ItemKind, Entry, children, node, of_kind, row, meaning, meaning_at, NamesBefore, ChildrenBefore, EachKind, kind_exports, look_up, export_of, Names, export_found, PackageParts, moved, IsGrown, IsGrownBy, MeansTheSame, copies_length}
+use Rattle.wac_graph.proofs.Common.{◌≡◌, ◌∙◌, ◌<◌, ◌≤◌, ◌+◌, ◌-◌, ℕ, zero, suc, Option, Some, None, List, [], ◌∷◌, ◌++◌, length, take, refl, sym, ap, arith, Bool, true, false, cond, ◌&&◌, append-nil, slice_get, nat_le, nat_lt, option_map, AllByRecursion, lt-ltb, le-ltb, nat_tests, ItemKind, Entry, children, node, of_kind, row, meaning, meaning_at, NamesBefore, ChildrenBefore, EachKind, kind_exports, look_up, export_of, Names, export_found, PackageParts}
+use Rattle.wac_graph.specs.Moved.{moved}
+use Rattle.wac_graph.specs.Copied.{IsGrown, IsGrownBy, MeansTheSame}
+use Rattle.wac_graph.proofs.Growing.{copies_length}
 use Rattle.wac_graph_types.specs.Entry.{label}
 use Rattle.wac_graph_types.proofs.Meanings.{grown_under, meaning_at_entry, added}
 use Rattle.wac_graph.specs.Package.{Key, HeldPackage, IsHeld, moved_package}

@@ -1,5 +1,8 @@
 -- What always holds of a graph still holds as it is built.
-use Rattle.wac_graph.proofs.Common.{◌≡◌, ◌∙◌, ◌<◌, ◌≤◌, ◌+◌, ℕ, zero, suc, Option, Some, None, List, [], ◌∷◌, ◌++◌, length, append-nil, refl, sym, ap, subst, arith, true, false, inl, inr, slice_get, slice_set, IsSome, option_and_then, AllByRecursion, ItemKind, Entry, children, EachKind, KeepsMeanings, PackageParts, IsPackage, Named, IsFresh, cons_named, Names, IsTable, ItemsNamed, keeps_appended, package_world, package_instance, package_definitions, names_kept, table_more, moved_items, IsGrown, IsGrownBy, copy_named, copies_length}
+use Rattle.wac_graph.proofs.Common.{◌≡◌, ◌∙◌, ◌<◌, ◌≤◌, ◌+◌, ℕ, zero, suc, Option, Some, None, List, [], ◌∷◌, ◌++◌, length, append-nil, refl, sym, ap, subst, arith, true, false, inl, inr, slice_get, slice_set, IsSome, option_and_then, AllByRecursion, ItemKind, Entry, children, EachKind, KeepsMeanings, PackageParts, IsPackage, Named, IsFresh, cons_named, Names, IsTable, ItemsNamed, keeps_appended, package_world, package_instance, package_definitions, names_kept, table_more}
+use Rattle.wac_graph.specs.Moved.{moved_items}
+use Rattle.wac_graph.specs.Copied.{IsGrown, IsGrownBy}
+use Rattle.wac_graph.proofs.Growing.{copy_named, copies_length}
 use Rattle.std.proofs.Common.{length-append}
 use Rattle.wac_graph_types.specs.declared.kind.ItemKind.TheVariants as kinds
 use Rattle.wac_graph_types.proofs.Shapes.{cons_append}

@@ -1,5 +1,6 @@
 -- What is read of a graph stays through each building call.
-use Rattle.wac_graph.proofs.Common.{◌≡◌, ℕ, Option, Some, None, List, [], length, refl, slice_get, slice_set, ItemKind, Entry, PackageParts, IsGrown}
+use Rattle.wac_graph.proofs.Common.{◌≡◌, ℕ, Option, Some, None, List, [], length, refl, slice_get, slice_set, ItemKind, Entry, PackageParts}
+use Rattle.wac_graph.specs.Copied.{IsGrown}
 use Rattle.wac_graph.specs.Package.{Key, moved_package}
 use Rattle.wac_graph.specs.Node.{Node, import, definition, alias, instantiation}
 use Rattle.wac_graph.specs.Graph.{Parts, plain_node, changed, given_too, with_entry, with_package, with_import, with_definition, with_export, with_alias, with_instantiation, with_name, with_argument}

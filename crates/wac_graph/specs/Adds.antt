@@ -4,7 +4,7 @@ use Rattle.wac_graph_types.specs.declared.entry.Entry.{Entry}
 use Rattle.wac_graph_types.specs.declared.kind.ItemKind.TheVariants as kinds
 use Rattle.wac_graph_types.specs.Growth.{KeepsNames}
 use Rattle.wac_graph_types.specs.Package.{PackageParts}
-use Rattle.wac_graph_copies.specs.Copied.{IsGrownBy, MeansTheSame}
+use Rattle.wac_graph.specs.Copied.{IsGrownBy, MeansTheSame}
 use Rattle.wac_graph.specs.Graph.{Parts, with_entry, with_package, with_instantiation}
 use Rattle.wac_graph.specs.Means.{declared_count, resources_in, KeepsKinds, MeansAdded, CopiesMean}
 use Rattle.wac_graph.specs.Package.{Key}

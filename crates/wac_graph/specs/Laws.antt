@@ -10,7 +10,7 @@ use Rattle.wac_graph_types.specs.Readings.{instance_exports, interface_exports, 
 use Rattle.wac_graph_types.specs.Scope.{look_up, IsFresh}
 use Rattle.wac_graph_types.specs.Shape.{exports_of, imports_of, items_mean}
 use Rattle.wac_graph_types.specs.Table.{Names}
-use Rattle.wac_graph_copies.specs.Copied.{IsGrown}
+use Rattle.wac_graph.specs.Copied.{IsGrown}
 use Rattle.wac_graph.specs.Package.{Key}
 use Rattle.wac_graph.specs.Node.{Node}
 use Rattle.wac_graph.specs.Graph.{Parts, with_package, with_name, with_argument, package_of, arguments_of, export_kind, import_kind, parameter_kind}

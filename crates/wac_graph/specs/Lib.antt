@@ -15,3 +15,5 @@ pub mod Resources
 pub mod Packages
 pub mod Adds
 pub mod Laws
+pub mod Moved
+pub mod Copied

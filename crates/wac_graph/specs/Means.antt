@@ -9,7 +9,7 @@ use Rattle.wac_graph_types.specs.Meaning as tables
 use Rattle.wac_graph_types.specs.Package.{PackageParts}
 use Rattle.wac_graph_types.specs.Shape.{export_of}
 use Rattle.wac_graph.specs.Package.{Key, HeldPackage}
-use Rattle.wac_graph_copies.specs.Moved.{moved}
+use Rattle.wac_graph.specs.Moved.{moved}
 use Rattle.wac_graph.specs.Graph.{Parts}
 use Rattle.wac_graph.specs.Origin.{Origin, Naming, IsOneToOne, declared, copied}
 

@@ -12,7 +12,7 @@ use Rattle.wac_graph_types.specs.declared.entry.Entry.{Entry}
 use Rattle.wac_graph_types.specs.Package.{PackageParts}
 use Rattle.wac_graph_types.specs.Table.{Names, ItemsNamed}
 use Rattle.wac_graph.specs.declared.package_key.PackageKey.{PackageKey}
-use Rattle.wac_graph_copies.specs.Moved.{moved_items}
+use Rattle.wac_graph.specs.Moved.{moved_items}
 
 -- a package's name and version
 abbrev pub Key : Type 0

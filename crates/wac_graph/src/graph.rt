@@ -12,7 +12,7 @@ ghost use Rattle.wac_graph_types.specs.Table.{IsTable, EachEntryNamed, Names as 
 ghost use Rattle.wac_graph_types.specs.declared.entry.Entry.TheVariants as entries;
 ghost use Rattle.wac_graph.specs.Adds.{Adds, AddsPackage, AddsInstance};
 ghost use Rattle.wac_graph.specs.Aliased.{AddsAlias, IsAliased, alias_number};
-ghost use Rattle.wac_graph_copies.specs.Copied.{IsGrown, IsGrownBy, MeansTheSame};
+ghost use Rattle.wac_graph.specs.Copied.{IsGrown, IsGrownBy, MeansTheSame};
 ghost use Rattle.wac_graph.specs.Graph.{empty, with_import, with_definition, with_export, with_package, with_name, with_argument, export_kind as kind_exported, import_kind as kind_imported, parameter_kind, arguments_of, alias_in, package_of, read_form, import_in_place};
 ghost use Rattle.wac_graph.specs.Means.{MeansExport, KeepsKinds, EntriesMean, OriginsApart};
 ghost use Rattle.wac_graph.specs.Node.{sort_in, sort_of, import_in, source_in, HasPackage};
@@ -21,6 +21,7 @@ ghost use Rattle.wac_graph.specs.Package.{key_of, package_keyed, IsHeld};
 ghost use Rattle.wac_graph.specs.Readings.{held_of};
 ghost use Rattle.wac_graph.specs.Sound.{IsSound, NamesNodes};
 
+use crate::copy_types;
 use crate::held_nodes::HeldNodes;
 use crate::ids::{Nodes, Packages};
 use crate::named::{Names, NodeNames};
@@ -29,7 +30,6 @@ use crate::package_key::PackageKey;
 use crate::packages::{GraphPackage, HeldPackages, PackageCopy};
 use std::alloc::{AllocError, Global};
 use std::marker::Model;
-use wac_graph_copies::copy_types;
 use wac_graph_types::{
     DefinedType, DefinedTypeId, Entry, FuncType, FuncTypeId, Interface, InterfaceId, ItemKind,
     Package, Resource, ResourceId, Type, Types, ValueType, World, WorldId,

@@ -7,13 +7,16 @@
 //!
 //! The types, what they mean, packages and rules are those of `wac_graph_types`, whose names are re-exported: a table's
 //! entries name earlier entries by number, and two kinds are the same when they mean the same, whatever their numbers
-//! are. A resource is its origin: two resources of one name are two.
+//! are. A resource is its origin: two resources of one name are two. [`copy_types`] copies a package's table into the
+//! graph's, each entry with its numbers moved by that table's length.
 //!
 //! Building calls take what their contract requires, which the readings show, and fail only where memory runs out;
 //! then the graph is as before, except that [`add_package`](CompositionGraph::add_package) may have added types.
 //! Contracts see the graph as its lists, in the order in which things were added.
 #![tactic(auto)]
 
+mod copied;
+mod copy;
 mod equal;
 mod graph;
 mod held_nodes;
@@ -24,6 +27,8 @@ mod node;
 mod package_key;
 mod packages;
 
+pub use copied::copy_types;
+pub use copy::{copy_items, copy_text};
 pub use graph::CompositionGraph;
 pub use ids::{Nodes, Packages};
 pub use named::Names;

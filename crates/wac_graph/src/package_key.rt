@@ -2,8 +2,8 @@
 ghost use Rattle.std.specs.Prelude.{◌≡◌, IfOk};
 ghost use Rattle.wac_graph.specs.Package.{key_of};
 
+use crate::copy_text;
 use std::alloc::{AllocError, Global};
-use wac_graph_copies::copy_text;
 
 /// A package's name and the text of its version, as `wasi:http` and `0.2.0`.
 ///

@@ -5,11 +5,11 @@ ghost use Rattle.wac_graph.specs.Package.{Key, key_of, package_keyed, moved_pack
 ghost use Rattle.wac_graph.specs.PackageCopies.{held_under};
 ghost use Rattle.wac_graph.specs.Readings.{held_of};
 
+use crate::copy_items;
 use crate::package_key::PackageKey;
 use indexmap::IndexMap;
 use std::alloc::{AllocError, Global};
 use std::marker::Model;
-use wac_graph_copies::copy_items;
 use wac_graph_types::{InterfaceId, ItemKind, Package, WorldId};
 
 /// What was copied of a package, in the graph's numbers.

@@ -4,8 +4,8 @@ use Rattle.serde_json.specs.Data.{Data, array}
 use Rattle.wac_ast_grammar.specs.Tree.{arguments_from, types_from}
 use Rattle.wac_ast_types.specs.Types.{ty_of}
 use Rattle.wac_ast_types.specs.declared.types.«Type».{«Type»}
-use Rattle.wac_ast_expressions.specs.Expressions.{argument_of}
-use Rattle.wac_ast_expressions.specs.declared.expr.InstantiationArgument.{InstantiationArgument}
+use Rattle.wac_ast_statements.specs.Expressions.{argument_of}
+use Rattle.wac_ast_statements.specs.declared.expr.InstantiationArgument.{InstantiationArgument}
 use Rattle.wac_json_forms.specs.Forms.{arguments_json, types_json}
 
 abbrev pub type_list : List «Type» → Data

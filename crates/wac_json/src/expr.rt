@@ -15,7 +15,7 @@ use wac_ast::{
 };
 
 impl ToValue for Expr<'_> {
-    ghost use Rattle.wac_ast_expressions.specs.Expressions.{expr_of};
+    ghost use Rattle.wac_ast_statements.specs.Expressions.{expr_of};
     ghost use Rattle.wac_json_forms.specs.Forms.{expr_json};
 
     ghost form = { λ x. expr_json (expr_of x) };
@@ -35,7 +35,7 @@ impl ToValue for Expr<'_> {
 }
 
 impl ToValue for PrimaryExpr<'_> {
-    ghost use Rattle.wac_ast_expressions.specs.Expressions.{primary_expr_of};
+    ghost use Rattle.wac_ast_statements.specs.Expressions.{primary_expr_of};
     ghost use Rattle.wac_json_forms.specs.Forms.{primary_expr_json};
 
     ghost form = { λ x. primary_expr_json (primary_expr_of x) };
@@ -52,7 +52,7 @@ impl ToValue for PrimaryExpr<'_> {
 }
 
 impl ToValue for NewExpr<'_> {
-    ghost use Rattle.wac_ast_expressions.specs.Expressions.{new_expr_of};
+    ghost use Rattle.wac_ast_statements.specs.Expressions.{new_expr_of};
     ghost use Rattle.wac_json_forms.specs.Forms.{content, primary_expr_json};
 
     ghost form = { λ x. content (primary_expr_json (new_expr_of x)) };
@@ -88,7 +88,7 @@ fn arguments_value(
 }
 
 impl ToValue for InstantiationArgument<'_> {
-    ghost use Rattle.wac_ast_expressions.specs.Expressions.{argument_of};
+    ghost use Rattle.wac_ast_statements.specs.Expressions.{argument_of};
     ghost use Rattle.wac_json_forms.specs.Forms.{argument_json};
 
     ghost form = { λ x. argument_json (argument_of x) };
@@ -108,7 +108,7 @@ impl ToValue for InstantiationArgument<'_> {
 }
 
 impl ToValue for NamedInstantiationArgument<'_> {
-    ghost use Rattle.wac_ast_expressions.specs.Expressions.{named_argument_of};
+    ghost use Rattle.wac_ast_statements.specs.Expressions.{named_argument_of};
     ghost use Rattle.wac_json_forms.specs.Forms.{named_argument_json};
 
     ghost form = { λ x. named_argument_json (named_argument_of x) };
@@ -127,7 +127,7 @@ impl ToValue for NamedInstantiationArgument<'_> {
 }
 
 impl ToValue for NestedExpr<'_> {
-    ghost use Rattle.wac_ast_expressions.specs.Expressions.{nested_expr_of};
+    ghost use Rattle.wac_ast_statements.specs.Expressions.{nested_expr_of};
     ghost use Rattle.wac_json_forms.specs.Forms.{content, primary_expr_json};
 
     ghost form = { λ x. content (primary_expr_json (nested_expr_of x)) };
@@ -146,7 +146,7 @@ impl ToValue for NestedExpr<'_> {
 }
 
 impl ToValue for InstantiationArgumentName<'_> {
-    ghost use Rattle.wac_ast_expressions.specs.Expressions.{argument_name_of};
+    ghost use Rattle.wac_ast_statements.specs.Expressions.{argument_name_of};
     ghost use Rattle.wac_json_forms.specs.Forms.{argument_name_json};
 
     ghost form = { λ x. argument_name_json (argument_name_of x) };
@@ -161,7 +161,7 @@ impl ToValue for InstantiationArgumentName<'_> {
 }
 
 impl ToValue for PostfixExpr<'_> {
-    ghost use Rattle.wac_ast_expressions.specs.Expressions.{postfix_expr_of};
+    ghost use Rattle.wac_ast_statements.specs.Expressions.{postfix_expr_of};
     ghost use Rattle.wac_json_forms.specs.Forms.{postfix_expr_json};
 
     ghost form = { λ x. postfix_expr_json (postfix_expr_of x) };
@@ -176,7 +176,7 @@ impl ToValue for PostfixExpr<'_> {
 }
 
 impl ToValue for AccessExpr<'_> {
-    ghost use Rattle.wac_ast_expressions.specs.Expressions.{access_expr_of};
+    ghost use Rattle.wac_ast_statements.specs.Expressions.{access_expr_of};
     ghost use Rattle.wac_json_forms.specs.Forms.{access_expr_json};
 
     ghost form = { λ x. access_expr_json (access_expr_of x) };
@@ -193,7 +193,7 @@ impl ToValue for AccessExpr<'_> {
 }
 
 impl ToValue for NamedAccessExpr<'_> {
-    ghost use Rattle.wac_ast_expressions.specs.Expressions.{named_access_expr_of};
+    ghost use Rattle.wac_ast_statements.specs.Expressions.{named_access_expr_of};
     ghost use Rattle.wac_json_forms.specs.Forms.{named_access_expr_json};
 
     ghost form = { λ x. named_access_expr_json (named_access_expr_of x) };

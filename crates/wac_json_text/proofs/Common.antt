@@ -11,9 +11,9 @@ pub use Rattle.std.specs.Prelude.{nat_eq, nat_le, nat_lt, not, ◌&&◌, ◌||�
 pub use Rattle.std.specs.Str.{IsAscii, IsCharBoundary, IsUtf8, bytes_eq}
 pub use Rattle.wac_ast.specs.Statements.{document_of, statement_of, type_statement_of}
 pub use Rattle.wac_ast_base.specs.Names.{doc_comment_of, extern_name_of, ident_of, package_name_of, package_path_of, string_of}
-pub use Rattle.wac_ast_expressions.specs.Expressions.{access_expr_of, argument_name_of, argument_of, expr_of, named_access_expr_of, new_expr_of, postfix_expr_of, primary_expr_of}
-pub use Rattle.wac_ast_expressions.specs.declared.expr.InstantiationArgument.{InstantiationArgument, size-InstantiationArgument}
-pub use Rattle.wac_ast_expressions.specs.declared.expr.PrimaryExpr.{PrimaryExpr, size-PrimaryExpr}
+pub use Rattle.wac_ast_statements.specs.Expressions.{access_expr_of, argument_name_of, argument_of, expr_of, named_access_expr_of, new_expr_of, postfix_expr_of, primary_expr_of}
+pub use Rattle.wac_ast_statements.specs.declared.expr.InstantiationArgument.{InstantiationArgument, size-InstantiationArgument}
+pub use Rattle.wac_ast_statements.specs.declared.expr.PrimaryExpr.{PrimaryExpr, size-PrimaryExpr}
 pub use Rattle.wac_ast_statements.specs.Statements.{export_options_of, export_statement_of, let_statement_of}
 pub use Rattle.wac_ast_types.specs.Declarations.{constructor_of, enum_case_of, enum_decl_of, field_of, flag_of, flags_decl_of, func_type_of, func_type_ref_of, item_type_decl_of, method_of, named_type_of, record_decl_of, resource_decl_of, resource_method_of, result_list_of, type_alias_kind_of, type_alias_of, type_decl_of, variant_case_of, variant_decl_of}
 pub use Rattle.wac_ast_types.specs.Types.{optional_of, ty_of}

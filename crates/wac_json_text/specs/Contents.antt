@@ -5,15 +5,14 @@ use Rattle.serde_json.specs.Data.{Data}
 use Rattle.wac_lexer.specs.Span.{Span}
 use Rattle.wac_ast_grammar.specs.Tree as tree
 use Rattle.wac_ast_grammar.specs.Tree.{types_from}
-use Rattle.wac_ast_expressions.specs.Expressions.{argument_of}
-use Rattle.wac_ast_expressions.specs.declared.expr.InstantiationArgument.{InstantiationArgument}
+use Rattle.wac_ast_statements.specs.Expressions.{argument_of}
+use Rattle.wac_ast_statements.specs.declared.expr.InstantiationArgument.{InstantiationArgument}
 use Rattle.wac_ast_worlds.specs.Worlds.{world_item_of}
 use Rattle.wac_ast_worlds.specs.declared.world.WorldItem.{WorldItem}
 use Rattle.wac_ast.specs.Statements.{document_of}
 use Rattle.wac_ast.specs.declared.document.Document.{Document}
 use Rattle.wac_printer_layout.specs.Printed.{Piece, blank}
-use Rattle.wac_json_forms.specs.Forms.{argument_json, argument_name_json, expr_json, json_text, list_json, object_of, optional_ty_json}
-use Rattle.wac_json_forms.specs.Forms.{span_json, ty_json, variant, world_item_json}
+use Rattle.wac_json_forms.specs.Forms.{argument_json, argument_name_json, expr_json, json_text, list_json, object_of, optional_ty_json, span_json, ty_json, variant, world_item_json}
 use Rattle.wac_json_text.specs.Pieces.{pieces}
 
 -- ---- forms without what they begin and end with

@@ -7,7 +7,7 @@ use wac_lexer::Sink;
 use wac_printer_pieces::{Pieces, PrintResult};
 
 impl Json for AccessExpr<'_> {
-    ghost use Rattle.wac_ast_expressions.specs.Expressions.{access_expr_of};
+    ghost use Rattle.wac_ast_statements.specs.Expressions.{access_expr_of};
     ghost use Rattle.wac_json_forms.specs.Forms.{access_expr_json};
 
     ghost form = { λ x. access_expr_json (access_expr_of x) };
@@ -22,7 +22,7 @@ impl Json for AccessExpr<'_> {
 }
 
 impl Json for NamedAccessExpr<'_> {
-    ghost use Rattle.wac_ast_expressions.specs.Expressions.{named_access_expr_of};
+    ghost use Rattle.wac_ast_statements.specs.Expressions.{named_access_expr_of};
     ghost use Rattle.wac_json_forms.specs.Forms.{named_access_expr_json};
 
     ghost form = { λ x. named_access_expr_json (named_access_expr_of x) };
@@ -37,7 +37,7 @@ impl Json for NamedAccessExpr<'_> {
 }
 
 impl Json for PostfixExpr<'_> {
-    ghost use Rattle.wac_ast_expressions.specs.Expressions.{postfix_expr_of};
+    ghost use Rattle.wac_ast_statements.specs.Expressions.{postfix_expr_of};
     ghost use Rattle.wac_json_forms.specs.Forms.{postfix_expr_json};
 
     ghost form = { λ x. postfix_expr_json (postfix_expr_of x) };
@@ -51,7 +51,7 @@ impl Json for PostfixExpr<'_> {
 }
 
 impl Json for InstantiationArgumentName<'_> {
-    ghost use Rattle.wac_ast_expressions.specs.Expressions.{argument_name_of};
+    ghost use Rattle.wac_ast_statements.specs.Expressions.{argument_name_of};
     ghost use Rattle.wac_json_forms.specs.Forms.{argument_name_json};
 
     ghost form = { λ x. argument_name_json (argument_name_of x) };

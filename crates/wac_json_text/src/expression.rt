@@ -1,7 +1,7 @@
 //! Expressions.
 ghost use Rattle.std.specs.Prelude.{◌≡◌, ℕ, List, codes};
 ghost use Rattle.std.specs.List.{flat_map};
-ghost use Rattle.wac_ast_expressions.specs.Expressions.{argument_name_of, expr_of, new_expr_of, primary_expr_of};
+ghost use Rattle.wac_ast_statements.specs.Expressions.{argument_name_of, expr_of, new_expr_of, primary_expr_of};
 ghost use Rattle.wac_printer_pieces.specs.Printed.{Prints};
 ghost use Rattle.wac_json_text.specs.Contents.{argument_pieces, named_json, nested_json};
 ghost use Rattle.wac_json_forms.specs.Forms.{expr_json, primary_expr_json};

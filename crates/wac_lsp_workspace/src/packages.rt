@@ -3,8 +3,8 @@ use crate::contents::ComponentPackage;
 use crate::sources::Source;
 use indexmap::IndexMap;
 use std::alloc::{AllocError, Global};
+use wac_declared_packages::copied_package;
 use wac_graph::Package;
-use wac_graph_packages::copied_package;
 use wac_package_errors::{Declared, KnownPackages, declare_all};
 use wac_package_names::key_named;
 

@@ -4,10 +4,10 @@ use mathlib.Core.Former.{Count}
 use Rattle.wac_ast_grammar.specs.Tree as tree
 use Rattle.wac_ast_grammar.specs.Tree.{Arguments, arguments_from, types_from}
 use Rattle.wac_ast_base.specs.Names.{package_name_of}
-use Rattle.wac_ast_expressions.specs.Expressions.{argument_of, arguments_of_row, new_expr_of, primary_expr_of}
-use Rattle.wac_ast_expressions.specs.declared.expr.InstantiationArgument.{InstantiationArgument}
-use Rattle.wac_ast_expressions.specs.declared.expr.NewExpr.{NewExpr, Row_of-InstantiationArgument, end_of-InstantiationArgument, more_of-InstantiationArgument, items-the_row-InstantiationArgument, items_hidden-the_row-InstantiationArgument-0}
-use Rattle.wac_ast_expressions.specs.declared.expr.PrimaryExpr.{PrimaryExpr, New, New'}
+use Rattle.wac_ast_statements.specs.Expressions.{argument_of, arguments_of_row, new_expr_of, primary_expr_of}
+use Rattle.wac_ast_statements.specs.declared.expr.InstantiationArgument.{InstantiationArgument}
+use Rattle.wac_ast_statements.specs.declared.expr.NewExpr.{NewExpr, Row_of-InstantiationArgument, end_of-InstantiationArgument, more_of-InstantiationArgument, items-the_row-InstantiationArgument, items_hidden-the_row-InstantiationArgument-0}
+use Rattle.wac_ast_statements.specs.declared.expr.PrimaryExpr.{PrimaryExpr, New, New'}
 use Rattle.wac_ast_types.specs.Types.{ty_of}
 use Rattle.wac_ast_types.specs.declared.types.«Type».{«Type»}
 use Rattle.wac_names.specs.declared.steps.Level.{Level}

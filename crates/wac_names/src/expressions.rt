@@ -1,7 +1,7 @@
 //! Names in expressions.
 ghost use Rattle.std.specs.Prelude.{◌≡◌, OnOk, map};
 ghost use Rattle.wac_ast_grammar.specs.Tree.{arguments_from};
-ghost use Rattle.wac_ast_expressions.specs.Expressions.{argument_of, expr_of, new_expr_of, primary_expr_of};
+ghost use Rattle.wac_ast_statements.specs.Expressions.{argument_of, expr_of, new_expr_of, primary_expr_of};
 ghost use Rattle.wac_names.specs.Steps.{argument_steps, arguments_steps, expr_steps, primary_steps};
 ghost use Rattle.wac_names.specs.Traced.{Takes};
 
@@ -10,7 +10,7 @@ use crate::paths::at_root;
 use crate::place::behind;
 use std::alloc::AllocError;
 use wac_ast_base::{Ident, String};
-use wac_ast_expressions::{Expr, InstantiationArgument, NewExpr, PostfixExpr, PrimaryExpr};
+use wac_ast_statements::{Expr, InstantiationArgument, NewExpr, PostfixExpr, PrimaryExpr};
 use wac_lexer::SourceSpan;
 
 /// Notes the names of an expression, and returns the scope behind it.

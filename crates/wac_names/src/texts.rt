@@ -24,7 +24,7 @@ impl<'d, 'a> Model for Lent<'d, 'a> {
     ghost use Rattle.std.specs.Prelude.{[]};
     ghost use Rattle.std.specs.Coded.{codes};
     ghost use Rattle.wac_ast_types.specs.contracts.types.«Type» as ty;
-    ghost use Rattle.wac_ast_expressions.specs.contracts.expr.PrimaryExpr as primary;
+    ghost use Rattle.wac_ast_statements.specs.contracts.expr.PrimaryExpr as primary;
     ghost use mir.Syntax.{erased};
     ghost use Rattle.wac_ast.specs.declared.document.Document.{Document};
 

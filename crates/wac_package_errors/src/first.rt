@@ -20,8 +20,8 @@ use wac_graph::{CompositionGraph, PackageKey};
 use wac_lexer::SourceSpan;
 use wac_package_names::find_instantiations;
 use wac_printer::Page;
+use wac_resolution::packages;
 use wac_resolution_errors::Error;
-use wac_resolution_mentions::packages;
 
 /// What a text is.
 #[derive(Drop)]

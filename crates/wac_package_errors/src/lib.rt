@@ -41,4 +41,4 @@ pub use wit::syntax_diagnostic;
 // What a caller supplies, or asks first.
 pub use wac_composition::flat_text;
 pub use wac_declared_packages::{DeclarationFault, Declared, declare_all};
-pub use wac_resolution_mentions::packages;
+pub use wac_resolution::packages;

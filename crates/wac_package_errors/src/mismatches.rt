@@ -5,7 +5,7 @@ ghost use Rattle.wac_graph_types.specs.Table.{Names};
 use crate::context::Context;
 use crate::earlier::graph_behind;
 use std::alloc::{AllocError, Global};
-use wac_component_mismatch::{Mismatch, mismatch};
+use wac_component_rules::{Mismatch, mismatch};
 use wac_graph::{CompositionGraph, ItemKind, NodeId, Type};
 use wac_lexer::SourceSpan;
 

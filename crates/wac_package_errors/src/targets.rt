@@ -9,7 +9,7 @@ use crate::items::{graph_with_world, item_export, item_world};
 use crate::mismatches::compared;
 use indexmap::IndexMap;
 use std::alloc::{AllocError, Global};
-use wac_component_mismatch::{Mismatch, mismatch};
+use wac_component_rules::{Mismatch, mismatch};
 use wac_graph::{CompositionGraph, ExternKind, ItemKind, NodeId, WorldId};
 
 /// Where an import or an export of the composition differs from that of the target.

@@ -5,9 +5,9 @@ use std::alloc::{AllocError, Global};
 use wac_ast::Statement;
 use wac_ast::internals::Statements;
 use wac_ast_base::PackageName;
-use wac_ast_expressions::{Expr, InstantiationArgument, NewExpr, PostfixExpr, PrimaryExpr};
+use wac_ast_statements::{Expr, InstantiationArgument, NewExpr, PostfixExpr, PrimaryExpr};
 use wac_lexer::SourceSpan;
-use wac_resolution_paths::package_key;
+use wac_resolution_state::package_key;
 
 /// What was found so far.
 #[derive(Drop)]

@@ -6,7 +6,7 @@ ghost use Rattle.wac_package_names.specs.Keys.{key_text, named_key};
 
 use std::alloc::{AllocError, Global};
 use wac_graph::PackageKey;
-use wac_resolution_paths::package_key;
+use wac_resolution_state::package_key;
 
 /// Appends a package's name, and its version behind `@`.
 pub fn push_key(out: &mut String, key: &PackageKey) -> Result<(), AllocError>

@@ -32,9 +32,8 @@ pub use wac_ast::{
     tokens_have_texts, trees_end_where_they_must, trees_stand_in_their_text, what_is_read_derives,
 };
 pub use wac_json::ToValue;
-pub use wac_parser_formatting::format;
 pub use wac_printer::{
-    DocumentPrinter, Page, PrintError, PrintResult, equal_bare_trees_print_equally,
+    DocumentPrinter, Page, PrintError, PrintResult, equal_bare_trees_print_equally, format,
     printed_documents_read_back, trees_of_texts_can_be_printed,
 };
-pub use wac_resolution_mentions::packages;
+pub use wac_resolution::packages;

@@ -7,7 +7,7 @@ use Rattle.wac_printer_layout.specs.ExpressionLayout.{argument_layout, arguments
 use Rattle.std.specs.Bool.{◌==◌}
 use Rattle.wac_ast_grammar.specs.Tree as tree
 use denote.Param.Weighed.{most}
-use Rattle.wac_ast_expressions.specs.declared.expr.NamedInstantiationArgument.{NamedInstantiationArgument}
+use Rattle.wac_ast_statements.specs.declared.expr.NamedInstantiationArgument.{NamedInstantiationArgument}
 use Rattle.wac_printer.specs.Arguments.{argument_line_layout, braces_layout, is_lone_fill}
 
 pub lone : (b : Bool) (xs rest : List InstantiationArgument) (s : Span) → xs ≡ Fill s ∷ rest → b ≡ (length rest == 0) → b ≡ is_lone_fill (arguments_from (map argument_of xs))

@@ -6,13 +6,13 @@ pub use Rattle.std.specs.Prelude.{Vec, ◌*◌, ◌+◌}
 pub use Rattle.wac_ast.specs.Statements.{document_of, statement_of, type_statement_of}
 pub use Rattle.wac_ast_base.specs.Names.{doc_comment_of, extern_name_of, ident_of, package_path_of}
 pub use Rattle.wac_ast_base.specs.declared.names.DocComment.{DocComment}
-pub use Rattle.wac_ast_expressions.proofs.ExprViews.{nested_out, new_is}
-pub use Rattle.wac_ast_expressions.specs.Expressions.{argument_name_of, argument_of, expr_of, postfix_expr_of, primary_expr_of}
-pub use Rattle.wac_ast_expressions.specs.declared.expr.InstantiationArgument.{Fill, InstantiationArgument, Named, size-InstantiationArgument}
-pub use Rattle.wac_ast_expressions.specs.declared.expr.NestedExpr.{NestedExpr, out-NestedExpr}
-pub use Rattle.wac_ast_expressions.specs.declared.expr.PrimaryExpr.{Nested, PrimaryExpr, size-PrimaryExpr}
 pub use Rattle.wac_ast_grammar.specs.Tree.{Arguments, Document, arguments_from, types_from}
+pub use Rattle.wac_ast_statements.proofs.ExprViews.{nested_out, new_is}
+pub use Rattle.wac_ast_statements.specs.Expressions.{argument_name_of, argument_of, expr_of, postfix_expr_of, primary_expr_of}
 pub use Rattle.wac_ast_statements.specs.Statements.{directive_of, export_options_of}
+pub use Rattle.wac_ast_statements.specs.declared.expr.InstantiationArgument.{Fill, InstantiationArgument, Named, size-InstantiationArgument}
+pub use Rattle.wac_ast_statements.specs.declared.expr.NestedExpr.{NestedExpr, out-NestedExpr}
+pub use Rattle.wac_ast_statements.specs.declared.expr.PrimaryExpr.{Nested, PrimaryExpr, size-PrimaryExpr}
 pub use Rattle.wac_ast_types.specs.Declarations.{enum_case_of, field_of, flag_of, func_type_of, func_type_ref_of, item_type_decl_of, named_type_of, resource_method_of, result_list_of, type_alias_kind_of, type_decl_of, variant_case_of}
 pub use Rattle.wac_ast_types.specs.Types.{ty_of, types_of_row}
 pub use Rattle.wac_ast_uses.specs.Uses.{use_item_of, use_of, use_path_of, world_include_item_of, world_ref_of}

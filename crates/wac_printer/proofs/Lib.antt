@@ -6,3 +6,4 @@ pub mod Trees
 pub mod Arguments
 pub mod Slicing
 pub mod ReadingBack
+pub mod Printed

@@ -4,8 +4,8 @@ use Rattle.std.specs.List.{flat_map}
 use Rattle.wac_ast_grammar.specs.Tree as tree
 use Rattle.wac_ast_grammar.specs.Tree.{Arguments, PackageName, InstantiationArgument, arguments_from}
 use Rattle.wac_ast_grammar.specs.Walk.{walk_instantiation_argument}
-use Rattle.wac_ast_expressions.specs.Expressions.{argument_of}
-use Rattle.wac_ast_expressions.specs.declared.expr.InstantiationArgument.{InstantiationArgument as CodeArgument}
+use Rattle.wac_ast_statements.specs.Expressions.{argument_of}
+use Rattle.wac_ast_statements.specs.declared.expr.InstantiationArgument.{InstantiationArgument as CodeArgument}
 use Rattle.wac_printer_layout.specs.Bare.{bare}
 use Rattle.wac_printer_layout.specs.Printed.{Piece, token, line, deeper}
 use Rattle.wac_printer_layout.specs.Parts.{space, newline}

@@ -5,3 +5,4 @@ pub mod Sliced
 pub mod Arguments
 pub mod ReadBack
 pub mod Lent
+pub mod Formatted

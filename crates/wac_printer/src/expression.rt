@@ -2,7 +2,7 @@
 ghost use Rattle.std.specs.Prelude.{◌≡◌, true, List, [], ◌∷◌, codes, map};
 ghost use Rattle.std.specs.List.{All};
 ghost use Rattle.wac_ast_grammar.specs.Walk.{walk_access_expr, walk_arguments, walk_expr, walk_instantiation_argument, walk_instantiation_argument_name, walk_named_access_expr, walk_postfix_expr, walk_primary_expr};
-ghost use Rattle.wac_ast_expressions.specs.Expressions.{access_expr_of, argument_name_of, argument_of, expr_of, named_access_expr_of, new_expr_of, postfix_expr_of, primary_expr_of};
+ghost use Rattle.wac_ast_statements.specs.Expressions.{access_expr_of, argument_name_of, argument_of, expr_of, named_access_expr_of, new_expr_of, postfix_expr_of, primary_expr_of};
 ghost use Rattle.wac_ast_base.specs.Names.{package_name_of};
 ghost use Rattle.wac_printer_layout.specs.Printed.{token};
 ghost use Rattle.wac_printer_pieces.specs.Printed.{Prints};

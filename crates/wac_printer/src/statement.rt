@@ -5,9 +5,8 @@ ghost use Rattle.std.specs.Option.{option_map};
 ghost use Rattle.wac_ast_grammar.specs.Walk.{walk_export_options, walk_export_statement, walk_extern_name, walk_import_statement, walk_import_type, walk_let_statement, walk_package_directive, walk_statement, walk_type_statement};
 ghost use Rattle.wac_ast_statements.specs.Statements.{directive_of, export_options_of, export_statement_of, let_statement_of};
 ghost use Rattle.wac_ast_base.specs.Names.{extern_name_of, package_path_of};
-ghost use Rattle.wac_ast.specs.Statements.{document_of, statement_of};
+ghost use Rattle.wac_ast.specs.Statements.{document_of, statement_of, type_statement_of};
 ghost use Rattle.wac_ast_worlds.specs.Worlds.{import_statement_of, import_type_of};
-ghost use Rattle.wac_ast.specs.Statements.{type_statement_of};
 ghost use Rattle.wac_printer.specs.ReadBack.{IsReadBack};
 ghost use Rattle.wac_ast_grammar.specs.Leaves.{IfThere};
 ghost use Rattle.wac_printer.specs.Sliced.{DocumentSliced, PackagePathSliced, any_docs, printable};
@@ -49,7 +48,7 @@ pub struct Page<'t, 'a> {
 impl<'t, 'a> Model for Page<'t, 'a> {
     ghost use Rattle.std.specs.Coded.{codes};
     ghost use Rattle.wac_ast_types.specs.contracts.types.«Type» as ty;
-    ghost use Rattle.wac_ast_expressions.specs.contracts.expr.PrimaryExpr as primary;
+    ghost use Rattle.wac_ast_statements.specs.contracts.expr.PrimaryExpr as primary;
     ghost use Rattle.wac_printer.specs.Lent.{no_lifetime};
     ghost use Rattle.wac_ast.specs.declared.document.Document.{Document};
 
@@ -76,7 +75,7 @@ impl<'t, 'a> Model for Statements<'t, 'a> {
     ghost use Rattle.std.specs.Prelude.{List};
     ghost use Rattle.std.specs.Coded.{codes};
     ghost use Rattle.wac_ast_types.specs.contracts.types.«Type» as ty;
-    ghost use Rattle.wac_ast_expressions.specs.contracts.expr.PrimaryExpr as primary;
+    ghost use Rattle.wac_ast_statements.specs.contracts.expr.PrimaryExpr as primary;
     ghost use Rattle.wac_printer.specs.Lent.{no_lifetime};
     ghost use Rattle.wac_ast.specs.declared.statement.Statement.{Statement};
 

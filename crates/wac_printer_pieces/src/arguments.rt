@@ -1,13 +1,13 @@
 //! What ends the line of an argument.
 ghost use Rattle.std.specs.Prelude.{◌≡◌, ℕ, List, [], ◌∷◌, ◌++◌, codes};
 ghost use Rattle.wac_printer_layout.specs.Printed.{Piece, token};
-ghost use Rattle.wac_ast_expressions.specs.Expressions.{argument_of};
+ghost use Rattle.wac_ast_statements.specs.Expressions.{argument_of};
 ghost use Rattle.wac_printer_pieces.specs.Arguments.{ending_layout};
 ghost use Rattle.wac_printer_pieces.specs.Printed.{Prints};
 
 use crate::error::PrintResult;
 use crate::pieces::Pieces;
-use wac_ast_expressions::InstantiationArgument;
+use wac_ast_statements::InstantiationArgument;
 use wac_lexer::Sink;
 
 #[tactic(auto, using(crate::proofs::Printing::seq))]

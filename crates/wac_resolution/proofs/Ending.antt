@@ -6,9 +6,9 @@ use Rattle.wac_ast.specs.declared.document.Document.{Document as CodeDocument}
 use Rattle.wac_ast.specs.declared.statement.Statement.{Statement as CodeStatement}
 use Rattle.wac_ast_statements.specs.Statements.{directive_of}
 use Rattle.wac_resolution_rules.specs.Target.{MeetsTarget}
-use Rattle.wac_resolution_nodes.proofs.Composed.{composition_expands}
+use Rattle.wac_resolution_state.proofs.Composed.{composition_expands}
 use Rattle.wac_resolution.specs.Sequences.{StatementsRun, BreaksAfter, OneBreaks}
-use Rattle.wac_resolution_target.specs.Outcome.{Meets, Unmeets}
+use Rattle.wac_resolution_statements.specs.Outcome.{Meets, Unmeets}
 use Rattle.wac_resolution.specs.Resolved.{by_key}
 use Rattle.wac_resolution.specs.Steps.{MeetsIn, MissesIn, Composed, TargetLast, Breaks}
 use Rattle.wac_resolution.proofs.Starting.{IsStart, start_placed}

@@ -4,12 +4,12 @@ use Rattle.std.proofs.lemmas.List.Elements.{filter_map-append}
 use Rattle.wac_ast_grammar.specs.Tree.{Statement}
 use Rattle.wac_graph_types.specs.Shape as shapes
 use Rattle.wac_graph_types.proofs.Shapes.{promoted_is}
-use Rattle.wac_resolution_bindings.specs.Imports.{ImportsAs}
+use Rattle.wac_resolution_statements.specs.Imports.{ImportsAs}
 use Rattle.wac_resolution_rules.specs.Given.{Given}
 use Rattle.wac_resolution_rules.specs.Places.{Places}
 use Rattle.wac_resolution.specs.ImportTypes.{ImportMade, ImportTypeBreaks}
-use Rattle.wac_resolution_bindings.proofs.PlaceLaws.{one_more_at, no_more_at, same_places}
-use Rattle.wac_resolution_bindings.proofs.Importing.{placed_imported, handed_imported}
+use Rattle.wac_resolution_statements.proofs.PlaceLaws.{one_more_at, no_more_at, same_places}
+use Rattle.wac_resolution_statements.proofs.Importing.{placed_imported, handed_imported}
 
 -- ---- the imports of a composition with one more
 

@@ -1,5 +1,6 @@
 -- What is right with the packages that are mentioned is right with all that were supplied.
-use Rattle.wac_resolution.proofs.Common.{◌≡◌, ◌∙◌, ◌↔◌, ℕ, List, [], ◌∷◌, filter, Some, Result, Ok, Err, Bool, true, false, cond, inl, inr, refl, sym, ap, subst, AllByRecursion, PackageParts, Named, version_text, PackageKey, Parts, Naming, HeldPackage, Key, key_of, same_key, Contents, Packages, contents_in, contents_of, handed, package_of, Error, Composition, Given, Rules, IsMentioned, Mention, given_over, is_mentioned, kept, mentions, Describes, FirstClause, FirstFailing, GraphClause, OnlyClause, given_to, AllSupplied, IsSuppliedAs, OnlyTheseMatter}
+use Rattle.wac_resolution.proofs.Common.{◌≡◌, ◌∙◌, ◌↔◌, ℕ, List, [], ◌∷◌, filter, Some, Result, Ok, Err, Bool, true, false, cond, inl, inr, refl, sym, ap, subst, AllByRecursion, PackageParts, Named, version_text, PackageKey, Parts, Naming, HeldPackage, Key, key_of, same_key, Contents, Packages, contents_in, contents_of, handed, package_of, Error, Composition, Given, Rules, IsMentioned, Mention, given_over, is_mentioned, kept, mentions, Describes, FirstClause, FirstFailing, GraphClause, OnlyClause, given_to, AllSupplied, IsSuppliedAs}
+use Rattle.wac_resolution.specs.Packages.{OnlyTheseMatter}
 use Rattle.wac_ast_grammar.specs.Tree.{Document}
 use Rattle.wac_graph.proofs.Keys.{keys_same}
 use Rattle.wac_resolution_errors.specs.declared.error.Error.{Error as CodeError}

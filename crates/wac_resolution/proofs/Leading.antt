@@ -2,7 +2,7 @@
 use Rattle.wac_resolution.proofs.Common.{◌≡◌, ◌∙◌, ℕ, zero, suc, List, [], ◌∷◌, ◌++◌, Option, None, inl, inr, refl, sym, ap, subst, append-nil, filter_map, cons_option, Span, TypeStatement, ItemKind, Meaning, PackageParts, Named, with_named, Parts, means, declared_count, Naming, Key, all_implies, Error, DefinitionBroken, KindBroken, Composition, Node, definition, named_at, Rules, import_of, imports, next_of, Places, more_at, places_after, identifier_of, Defines, defining, Root, composed, Context, IsSuppliedAs, AllSupplied, packages_in, context_of, Externs, places_in, IsDefined, Stand, StatementRun, Breaks, composed_kept}
 use Rattle.wac_ast_grammar.specs.Tree.{Statement}
 use Rattle.wac_resolution_rules.proofs.Prefixes.{named_at_suc}
-use Rattle.wac_resolution_externs.specs.Exports.{GrowsExports}
+use Rattle.wac_resolution_statements.specs.Exports.{GrowsExports}
 use Rattle.wac_resolution.specs.Definitions.{KindDeclared}
 
 -- ---- places

@@ -9,3 +9,9 @@ pub mod Starting
 pub mod Ending
 pub mod Kept
 pub mod Resolving
+pub mod Arguments
+pub mod FirstMentions
+pub mod Keys
+pub mod Noting
+pub mod Between
+pub mod Places

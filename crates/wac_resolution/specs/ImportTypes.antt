@@ -14,10 +14,10 @@ use Rattle.wac_resolution_rules.specs.Given.{Rules}
 use Rattle.wac_resolution_rules.specs.Statements.{ImportsKind}
 use Rattle.wac_resolution_state.specs.Bindings.{values_of}
 use Rattle.wac_resolution_state.specs.Named.{scope_of}
-use Rattle.wac_resolution_nodes.specs.declared.root.Root.{Root}
-use Rattle.wac_resolution_nodes.specs.Root.{composed}
-use Rattle.wac_resolution_paths.specs.declared.context.Context.{Context}
-use Rattle.wac_resolution_paths.specs.Context.{packages_in}
+use Rattle.wac_resolution_state.specs.declared.root.Root.{Root}
+use Rattle.wac_resolution_state.specs.Root.{composed}
+use Rattle.wac_resolution_state.specs.declared.context.Context.{Context}
+use Rattle.wac_resolution_state.specs.Context.{packages_in}
 use Rattle.wac_resolution_worlds.specs.Made.{KindMade}
 use Rattle.wac_resolution_worlds.specs.Referred.{NewFunc}
 use Rattle.wac_resolution_expressions.specs.Growth.{given_in}

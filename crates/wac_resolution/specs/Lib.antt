@@ -5,3 +5,7 @@ pub mod Layout
 pub mod Resolved
 pub mod Resolves
 pub mod Steps
+pub mod FirstMentions
+pub mod Noted
+pub mod Packages
+pub mod Ascending

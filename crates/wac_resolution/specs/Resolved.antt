@@ -16,8 +16,8 @@ use Rattle.wac_resolution_rules.specs.Composition.{Composition}
 use Rattle.wac_resolution_rules.specs.Given.{Given, Rules}
 use Rattle.wac_resolution_rules.specs.Mentions.{IsMentioned, Mention}
 use Rattle.wac_resolution_rules.specs.ResolvedDocument.{given_to, EveryNaming, GraphClause, OnlyClause, FirstClause}
-use Rattle.wac_resolution_nodes.specs.Nodes.{composition_of}
-use Rattle.wac_resolution_paths.specs.Expands.{AllSupplied}
+use Rattle.wac_resolution_state.specs.Nodes.{composition_of}
+use Rattle.wac_resolution_state.specs.Expands.{AllSupplied}
 
 -- a document, and a graph
 pub record Resolved : Type 0 where

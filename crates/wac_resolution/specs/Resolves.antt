@@ -8,10 +8,9 @@ use Rattle.wac_graph.specs.declared.package_key.PackageKey.{PackageKey}
 use Rattle.wac_resolution_errors.specs.declared.error.Error.{Error}
 use Rattle.wac_resolution_rules.specs.Given.{Rules}
 use Rattle.wac_resolution_rules.specs.Mentions.{Mention, kept, mentions}
-use Rattle.wac_resolution_mentions.specs.Packages.{AreFirst, OnlyTheseMatter}
+use Rattle.wac_resolution.specs.Packages.{AreFirst, OnlyTheseMatter}
 use Rattle.wac_resolution.specs.Layout.{IgnoresLayout}
-use Rattle.wac_resolution.specs.Resolved.{Resolved, by_key, call}
-use Rattle.wac_resolution.specs.Resolved.{HoldsMentioned, HoldsSupplied, IsDescribed, IsReturned, IsFirstFault}
+use Rattle.wac_resolution.specs.Resolved.{Resolved, by_key, call, HoldsMentioned, HoldsSupplied, IsDescribed, IsReturned, IsFirstFault}
 
 -- the packages that are kept are those of the first mentions, and no others matter to the document
 pub record IsKept (doc : Document) (packages others : List (PackageKey × PackageParts)) : Type 0 where

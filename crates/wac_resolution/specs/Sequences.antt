@@ -8,11 +8,11 @@ use Rattle.wac_resolution_errors.specs.Error.{Error}
 use Rattle.wac_resolution_rules.specs.BrokenStatements.{StatementBroken}
 use Rattle.wac_resolution_rules.specs.Given.{Given, Rules}
 use Rattle.wac_resolution_rules.specs.Places.{Placed, Leads}
-use Rattle.wac_resolution_nodes.specs.declared.root.Root.{Root}
-use Rattle.wac_resolution_paths.specs.declared.context.Context.{Context}
+use Rattle.wac_resolution_state.specs.declared.root.Root.{Root}
+use Rattle.wac_resolution_state.specs.declared.context.Context.{Context}
 use Rattle.wac_resolution_expressions.specs.Growth.{given_in}
-use Rattle.wac_resolution_externs.specs.declared.externs.Externs.{Externs}
-use Rattle.wac_resolution_bindings.specs.Statements.{Stand, placed_in}
+use Rattle.wac_resolution_statements.specs.declared.externs.Externs.{Externs}
+use Rattle.wac_resolution_statements.specs.Statements.{Stand, placed_in}
 
 -- all were executed: they take the old composition and places to the new ones, under every one-to-one naming
 pub record StatementsRun (context : Context) (rules : Rules) (old new : Parts) (before after : Root) (x y : Externs)

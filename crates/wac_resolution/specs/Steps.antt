@@ -12,15 +12,15 @@ use Rattle.wac_resolution_rules.specs.Given.{Given, Rules}
 use Rattle.wac_resolution_rules.specs.Places.{Placed, Leads, placed_start}
 use Rattle.wac_resolution_rules.specs.Statements.{Composes}
 use Rattle.wac_resolution_rules.specs.Target.{MeetsTarget}
-use Rattle.wac_resolution_nodes.specs.declared.root.Root.{Root}
-use Rattle.wac_resolution_nodes.specs.Nodes.{composition_of}
-use Rattle.wac_resolution_nodes.specs.Root.{composed}
-use Rattle.wac_resolution_paths.specs.declared.context.Context.{Context}
-use Rattle.wac_resolution_paths.specs.Expands.{AllSupplied}
-use Rattle.wac_resolution_paths.specs.Context.{packages_in}
+use Rattle.wac_resolution_state.specs.declared.root.Root.{Root}
+use Rattle.wac_resolution_state.specs.Nodes.{composition_of}
+use Rattle.wac_resolution_state.specs.Root.{composed}
+use Rattle.wac_resolution_state.specs.declared.context.Context.{Context}
+use Rattle.wac_resolution_state.specs.Expands.{AllSupplied}
+use Rattle.wac_resolution_state.specs.Context.{packages_in}
 use Rattle.wac_resolution_expressions.specs.Growth.{given_in}
-use Rattle.wac_resolution_externs.specs.declared.externs.Externs.{Externs}
-use Rattle.wac_resolution_bindings.specs.Statements.{placed_in}
+use Rattle.wac_resolution_statements.specs.declared.externs.Externs.{Externs}
+use Rattle.wac_resolution_statements.specs.Statements.{placed_in}
 use Rattle.wac_resolution.specs.Sequences.{BreaksAfter}
 
 -- the target is met, if there is one, the composition is as before, and the graph's packages were supplied

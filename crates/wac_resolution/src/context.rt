@@ -2,13 +2,13 @@
 ghost use Rattle.std.specs.Prelude.{◌≡◌, option_map};
 ghost use Rattle.wac_ast_statements.specs.Statements.{directive_of};
 ghost use Rattle.wac_ast_grammar.specs.Version.{version_text};
-ghost use Rattle.wac_resolution_paths.specs.Context.{packages_in};
+ghost use Rattle.wac_resolution_state.specs.Context.{packages_in};
 ghost use Rattle.wac_resolution.specs.Resolved.{by_key};
 
 use indexmap::IndexMap;
 use wac_ast::PackageDirective;
 use wac_graph::{Package, PackageKey};
-use wac_resolution_paths::Context;
+use wac_resolution_state::Context;
 
 /// The text of the version, after `@`.
 fn version(text: &str) -> Option<&str>

@@ -8,21 +8,18 @@ ghost use Rattle.wac_resolution_rules.specs.BrokenWorlds.{KindBroken};
 ghost use Rattle.wac_resolution_rules.specs.Errors.{ErrorSays};
 ghost use Rattle.wac_resolution_rules.specs.Given.{Rules};
 ghost use Rattle.wac_resolution_rules.specs.TypeStatements.{identifier_of};
-ghost use Rattle.wac_resolution_nodes.specs.Root.{composed, Agrees};
-ghost use Rattle.wac_resolution_paths.specs.Expands.{AllSupplied};
-ghost use Rattle.wac_resolution_paths.specs.Context.{packages_in, context_of};
+ghost use Rattle.wac_resolution_state.specs.Root.{composed, Agrees};
+ghost use Rattle.wac_resolution_state.specs.Expands.{AllSupplied};
+ghost use Rattle.wac_resolution_state.specs.Context.{packages_in, context_of};
 ghost use Rattle.wac_resolution.specs.Definitions.{KindDeclared};
-ghost use Rattle.wac_resolution_bindings.specs.Statements.{Stand, StatementRun, Breaks};
+ghost use Rattle.wac_resolution_statements.specs.Statements.{Stand, StatementRun, Breaks};
 
 use wac_ast::TypeStatement;
 use wac_ast_base::Ident;
 use wac_graph::ItemKind;
-use wac_resolution_bindings::define;
 use wac_resolution_errors::Error;
-use wac_resolution_externs::Externs;
-use wac_resolution_nodes::Root;
-use wac_resolution_paths::Context;
-use wac_resolution_state::State;
+use wac_resolution_state::{Context, Root, State};
+use wac_resolution_statements::{Externs, define};
 use wac_resolution_worlds::{OuterScope, interface_decl, world_decl};
 
 /// The identifier that a type statement declares.

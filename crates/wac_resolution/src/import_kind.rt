@@ -6,18 +6,16 @@ ghost use Rattle.wac_ast_worlds.specs.Worlds.{import_type_of, inline_interface_o
 ghost use Rattle.wac_graph_types.specs.Table.{ItemsNamed};
 ghost use Rattle.wac_resolution_rules.specs.Errors.{ErrorSays};
 ghost use Rattle.wac_resolution_state.specs.Bindings.{values_of};
-ghost use Rattle.wac_resolution_nodes.specs.Root.{Agrees};
-ghost use Rattle.wac_resolution_paths.specs.Expands.{AllSupplied};
-ghost use Rattle.wac_resolution_paths.specs.Context.{packages_in};
+ghost use Rattle.wac_resolution_state.specs.Root.{Agrees};
+ghost use Rattle.wac_resolution_state.specs.Expands.{AllSupplied};
+ghost use Rattle.wac_resolution_state.specs.Context.{packages_in};
 ghost use Rattle.wac_resolution.specs.ImportTypes.{FuncMade, FuncTypeBreaks, ImportMade, ImportTypeBreaks};
 
 use wac_ast_types::FuncType;
 use wac_ast_worlds::{ImportType, InlineInterface};
 use wac_graph::ItemKind;
 use wac_resolution_errors::Error;
-use wac_resolution_nodes::Root;
-use wac_resolution_paths::{Context, path};
-use wac_resolution_state::{State, kind_of};
+use wac_resolution_state::{Context, Root, State, kind_of, path};
 use wac_resolution_worlds::{OuterScope, interface, new_func};
 
 /// The kind of a function whose type is written in place.

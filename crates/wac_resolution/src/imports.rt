@@ -4,16 +4,14 @@ ghost use Rattle.wac_ast_grammar.specs.Tree.{Statement as StatementTree};
 ghost use Rattle.wac_ast_worlds.specs.Worlds.{import_statement_of};
 ghost use Rattle.wac_resolution_rules.specs.Errors.{ErrorSays};
 ghost use Rattle.wac_resolution_rules.specs.Given.{rules_of};
-ghost use Rattle.wac_resolution_bindings.specs.Statements.{Stand, StatementRun, Breaks};
+ghost use Rattle.wac_resolution_statements.specs.Statements.{Stand, StatementRun, Breaks};
 
 use crate::import_kind::import_kind;
 use wac_ast_worlds::ImportStatement;
 use wac_graph::Rules;
-use wac_resolution_bindings::{NewImport, import_as, import_name};
 use wac_resolution_errors::Error;
-use wac_resolution_externs::Externs;
-use wac_resolution_nodes::{Given, Root};
-use wac_resolution_state::State;
+use wac_resolution_state::{Given, Root, State};
+use wac_resolution_statements::{Externs, NewImport, import_as, import_name};
 
 /// Executes an import statement.
 pub(crate) fn import_statement<'a, R: Rules>(

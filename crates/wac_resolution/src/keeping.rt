@@ -1,7 +1,7 @@
 //! The packages that matter.
 ghost use Rattle.std.specs.Prelude.{◌≡◌};
 ghost use Rattle.wac_graph.specs.Package.{key_of};
-ghost use Rattle.wac_resolution_mentions.specs.Noted.{mentions_in};
+ghost use Rattle.wac_resolution.specs.Noted.{mentions_in};
 ghost use Rattle.wac_resolution_rules.specs.Mentions.{is_mentioned, kept};
 ghost use Rattle.wac_resolution.specs.Resolved.{by_key};
 

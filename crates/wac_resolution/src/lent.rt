@@ -4,15 +4,14 @@ ghost use Rattle.wac_ast.specs.Statements.{statement_of};
 ghost use Rattle.wac_resolution_rules.specs.Errors.{ErrorSays};
 ghost use Rattle.wac_resolution_rules.specs.Given.{rules_of};
 ghost use Rattle.wac_resolution.specs.Sequences.{StatementsRun, OneBreaks};
-ghost use Rattle.wac_resolution_bindings.specs.Statements.{Stand};
+ghost use Rattle.wac_resolution_statements.specs.Statements.{Stand};
 
 use crate::statements::compose;
 use wac_ast::internals::Statements;
 use wac_graph::Rules;
 use wac_resolution_errors::Error;
-use wac_resolution_externs::Externs;
-use wac_resolution_nodes::{Given, Root};
-use wac_resolution_state::State;
+use wac_resolution_state::{Given, Root, State};
+use wac_resolution_statements::Externs;
 
 /// Executes borrowed statements in order.
 pub(crate) fn carry_out<'a, R: Rules>(

@@ -1,8 +1,8 @@
 //! The resolver of a document.
 ghost use Rattle.std.specs.Prelude.{◌≡◌, IfOk};
 ghost use Rattle.wac_ast.specs.Statements.{document_of};
-ghost use Rattle.wac_resolution_mentions.specs.Noted.{mentions_in};
-ghost use Rattle.wac_resolution_mentions.specs.Packages.{AreFirst, OnlyTheseMatter};
+ghost use Rattle.wac_resolution.specs.Noted.{mentions_in};
+ghost use Rattle.wac_resolution.specs.Packages.{AreFirst, OnlyTheseMatter};
 ghost use Rattle.wac_resolution_rules.specs.Given.{rules_of};
 ghost use Rattle.wac_resolution_rules.specs.Mentions.{mentions};
 ghost use Rattle.wac_resolution.specs.Resolved.{in_resolution};
@@ -10,6 +10,7 @@ ghost use Rattle.wac_resolution.specs.Resolves.{IsKept, Resolves, ResolvesOver};
 
 use crate::context::context;
 use crate::keeping::keep_mentioned;
+use crate::packages;
 use crate::resolution::{Resolution, ResolutionResult};
 use crate::steps::composed;
 use indexmap::IndexMap;
@@ -20,8 +21,7 @@ use wac_ast::internals::Statements;
 use wac_graph::{CompositionGraph, Package, PackageKey, Rules};
 use wac_lexer::SourceSpan;
 use wac_resolution_errors::Error;
-use wac_resolution_mentions::packages;
-use wac_resolution_nodes::Given;
+use wac_resolution_state::Given;
 
 /// A resolver of one document.
 #[derive(Drop)]
@@ -33,7 +33,7 @@ impl<'d, 'a> Model for AstResolver<'d, 'a> {
     ghost use Rattle.std.specs.Prelude.{[]};
     ghost use Rattle.std.specs.Coded.{codes};
     ghost use Rattle.wac_ast_types.specs.contracts.types.«Type» as ty;
-    ghost use Rattle.wac_ast_expressions.specs.contracts.expr.PrimaryExpr as primary;
+    ghost use Rattle.wac_ast_statements.specs.contracts.expr.PrimaryExpr as primary;
     ghost use mir.Syntax.{erased};
     ghost use Rattle.wac_ast.specs.declared.document.Document.{Document};
 

@@ -3,18 +3,16 @@ ghost use Rattle.std.specs.Prelude.{OnOk, map};
 ghost use Rattle.wac_ast.specs.Statements.{statement_of};
 ghost use Rattle.wac_resolution_rules.specs.Errors.{ErrorSays};
 ghost use Rattle.wac_resolution_rules.specs.Given.{rules_of};
-ghost use Rattle.wac_resolution_bindings.specs.Statements.{Stand, StatementRun, Breaks};
+ghost use Rattle.wac_resolution_statements.specs.Statements.{Stand, StatementRun, Breaks};
 ghost use Rattle.wac_resolution.specs.Sequences.{StatementsRun, OneBreaks};
 
 use crate::definitions::type_statement;
 use crate::imports::import_statement;
 use wac_ast::Statement;
 use wac_graph::Rules;
-use wac_resolution_bindings::{export_statement, let_statement};
 use wac_resolution_errors::Error;
-use wac_resolution_externs::Externs;
-use wac_resolution_nodes::{Given, Root, Scope};
-use wac_resolution_state::State;
+use wac_resolution_state::{Given, Root, Scope, State};
+use wac_resolution_statements::{Externs, export_statement, let_statement};
 
 /// Executes a statement.
 fn statement<'a, R: Rules>(

@@ -14,9 +14,8 @@ use wac_ast::PackagePath;
 use wac_ast::internals::Statements;
 use wac_graph::{CompositionGraph, Rules};
 use wac_resolution_errors::Error;
-use wac_resolution_externs::Externs;
-use wac_resolution_nodes::{Given, Root, Scope};
-use wac_resolution_state::State;
+use wac_resolution_state::{Given, Root, Scope, State};
+use wac_resolution_statements::Externs;
 
 /// Executes the statements in an empty graph, and checks the target if there is one.
 fn compose_in<'a, R: Rules>(

@@ -3,16 +3,14 @@ ghost use Rattle.std.specs.Prelude.{OnOk, option_map};
 ghost use Rattle.wac_ast_base.specs.Names.{package_path_of};
 ghost use Rattle.wac_resolution_rules.specs.Errors.{ErrorSays};
 ghost use Rattle.wac_resolution_rules.specs.Given.{rules_of};
-ghost use Rattle.wac_resolution_bindings.specs.Statements.{Stand};
+ghost use Rattle.wac_resolution_statements.specs.Statements.{Stand};
 ghost use Rattle.wac_resolution.specs.Steps.{MeetsIn, MissesIn};
 
 use wac_ast::PackagePath;
 use wac_graph::Rules;
 use wac_resolution_errors::Error;
-use wac_resolution_externs::Externs;
-use wac_resolution_nodes::Scope;
-use wac_resolution_state::State;
-use wac_resolution_target::check_target;
+use wac_resolution_state::{Scope, State};
+use wac_resolution_statements::{Externs, check_target};
 
 /// Rejects a composition that is not what its target requires, if it has one.
 pub(crate) fn check_targets<R: Rules>(

@@ -9,9 +9,9 @@ pub use Rattle.std.specs.Prelude.{IfErr, IfOk, IfSome, IsSome, OnOk, String, fla
 pub use Rattle.std.specs.Str.{bytes_eq}
 pub use Rattle.std.specs.declared.alloc.Global.{Global}
 pub use Rattle.wac_ast_base.specs.Names.{ident_of, package_name_of}
-pub use Rattle.wac_ast_expressions.specs.Expressions.{argument_name_of, argument_of, expr_of, new_expr_of, postfix_expr_of, primary_expr_of}
-pub use Rattle.wac_ast_expressions.specs.declared.expr.InstantiationArgument.{size-InstantiationArgument}
-pub use Rattle.wac_ast_expressions.specs.declared.expr.NewExpr.{size-NewExpr, size_is-NewExpr}
+pub use Rattle.wac_ast_statements.specs.Expressions.{argument_name_of, argument_of, expr_of, new_expr_of, postfix_expr_of, primary_expr_of}
+pub use Rattle.wac_ast_statements.specs.declared.expr.InstantiationArgument.{size-InstantiationArgument}
+pub use Rattle.wac_ast_statements.specs.declared.expr.NewExpr.{size-NewExpr, size_is-NewExpr}
 pub use Rattle.wac_ast_grammar.specs.Spans.{argument_name_span}
 pub use Rattle.wac_ast_grammar.specs.Tree.{Arguments, Expr, Ident, InstantiationArgumentName, PackageName, PostfixExpr, PrimaryExpr, arguments_from}
 pub use Rattle.wac_graph.proofs.Lists.{all_implies, all_more, get_kept, get_last}
@@ -40,18 +40,18 @@ pub use Rattle.wac_lexer.specs.Span.{Span}
 pub use Rattle.wac_resolution_errors.proofs.Reports.{if_reports, reports}
 pub use Rattle.wac_resolution_errors.specs.Error.{Error, Reports, duplicate_instantiation_arg, missing_instantiation_arg, spread_instantiation_no_match}
 pub use Rattle.wac_resolution_errors.specs.Told.{told}
-pub use Rattle.wac_resolution_nodes.proofs.Composed.{composition_expands, composition_instance, grows_more, grows_none, grows_on, instance_given, instance_with, next_is, sound_stands, still_stand, still_there}
-pub use Rattle.wac_resolution_nodes.proofs.Instances.{export_meant, is_instance, no_instance}
-pub use Rattle.wac_resolution_nodes.proofs.Roots.{agrees_expands, agrees_nodes, fresh_read, kind_means, node_is, number_fresh}
-pub use Rattle.wac_resolution_nodes.specs.Accesses.{AccessSteps, AliasStep}
-pub use Rattle.wac_resolution_nodes.specs.Growth.{GrowsNodes}
-pub use Rattle.wac_resolution_nodes.specs.Instances.{IsInstance}
-pub use Rattle.wac_resolution_nodes.specs.Nodes.{NodesStand, composition_of, kind_in, node_of}
-pub use Rattle.wac_resolution_nodes.specs.Root.{Agrees, NodeIs, composed, numbers_of}
-pub use Rattle.wac_resolution_nodes.specs.declared.root.Root.{Root}
-pub use Rattle.wac_resolution_paths.specs.Context.{context_of, packages_in}
-pub use Rattle.wac_resolution_paths.specs.Expands.{AllSupplied, Expands, IsSuppliedAs, Loads}
-pub use Rattle.wac_resolution_paths.specs.declared.context.Context.{Context}
+pub use Rattle.wac_resolution_state.proofs.Composed.{composition_expands, composition_instance, grows_more, grows_none, grows_on, instance_given, instance_with, next_is, sound_stands, still_stand, still_there}
+pub use Rattle.wac_resolution_state.proofs.Instances.{export_meant, is_instance, no_instance}
+pub use Rattle.wac_resolution_state.proofs.Roots.{agrees_expands, agrees_nodes, fresh_read, kind_means, node_is, number_fresh}
+pub use Rattle.wac_resolution_state.specs.Accesses.{AccessSteps, AliasStep}
+pub use Rattle.wac_resolution_state.specs.NodeGrowth.{GrowsNodes}
+pub use Rattle.wac_resolution_state.specs.Instances.{IsInstance}
+pub use Rattle.wac_resolution_state.specs.Nodes.{NodesStand, composition_of, kind_in, node_of}
+pub use Rattle.wac_resolution_state.specs.Root.{Agrees, NodeIs, composed, numbers_of}
+pub use Rattle.wac_resolution_state.specs.declared.root.Root.{Root}
+pub use Rattle.wac_resolution_state.specs.Context.{context_of, packages_in}
+pub use Rattle.wac_resolution_state.specs.Expands.{AllSupplied, Expands, IsSuppliedAs, Loads}
+pub use Rattle.wac_resolution_state.specs.declared.context.Context.{Context}
 pub use Rattle.wac_resolution_rules.specs.BrokenExpressions.{AccessBroken, ArgumentBroken, ArgumentsBroken, IsFillNotLast, IsGivenAlready, IsUnknownPackage, ReachedAt, SpreadBroken, argument_place, argument_places, own_places, spread_places}
 pub use Rattle.wac_resolution_rules.specs.Composition.{Composition, Node, kind_at}
 pub use Rattle.wac_resolution_rules.specs.Expressions.{Accesses, At, Fits, Gives, GivesOne, Giving, Instantiates, IsComplete, IsEmpty, Spreads, alias_at, at, given_too, has_fill, if_imported, instance_id, is_fill, left_out, name_inferred, name_meant, nothing_given, own_name, spread_from, spread_of, spread_step, spreads_of}

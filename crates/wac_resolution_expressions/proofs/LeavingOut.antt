@@ -2,7 +2,7 @@
 use Rattle.wac_resolution_expressions.proofs.Common.{◌≡◌, ◌∙◌, ◌+◌, ◌<◌, ◌||◌, ℕ, suc, List, [], ◌∷◌, ◌++◌, Option, Some, None, Bool, true, false, inl, inr, refl, sym, ap, subst, map, take, drop, length, get_or, length-map, get_or-map, take_more, take-append-drop, drop-cons, ItemKind, WorldId, Meaning, world_imports, Named, items_mean, Names, PackageName, Arguments, arguments_from, argument_of, Parts, entry_means, EntriesMean, Naming, Error, missing_instantiation_arg, is_fill, has_fill, left_out, IsComplete}
 use Rattle.wac_graph_types.specs.declared.kind.ItemKind.TheVariants as kinds
 use Rattle.wac_ast_grammar.specs.Tree.{InstantiationArgument}
-use Rattle.wac_ast_expressions.specs.declared.expr.InstantiationArgument.{InstantiationArgument as CodeArgument}
+use Rattle.wac_ast_statements.specs.declared.expr.InstantiationArgument.{InstantiationArgument as CodeArgument}
 use Rattle.wac_resolution_expressions.specs.Arguments.{first_name}
 use Rattle.wac_resolution_expressions.specs.Incomplete.{IsIncomplete}
 use Rattle.wac_resolution_expressions.specs.Spreads.{imports_at}

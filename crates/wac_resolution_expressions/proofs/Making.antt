@@ -5,7 +5,7 @@ use Rattle.std.specs.String.{string_eq}
 use Rattle.wac_graph_types.specs.declared.kind.ItemKind.TheVariants as kinds
 use Rattle.wac_graph.specs.Node.{Node as GraphNode, instantiation, package_in, arguments_in}
 use Rattle.wac_graph.specs.Sound.{IsSound}
-use Rattle.wac_graph_copies.proofs.Copying.{Copying, copying_start, copying_new, copying_step, copying_end}
+use Rattle.wac_graph.proofs.Copying.{Copying, copying_start, copying_new, copying_step, copying_end}
 use Rattle.wac_resolution_expressions.specs.Arguments.{given_nodes}
 use Rattle.wac_resolution_expressions.specs.Spreads.{GivenThere}
 use Rattle.wac_resolution_expressions.specs.Instances.{MakesInstance}

@@ -1,7 +1,7 @@
 -- Where the arguments that aren't spreads are.
 use Rattle.wac_resolution_expressions.proofs.Common.{◌≡◌, ◌∙◌, ◌+◌, ◌<◌, ℕ, suc, List, [], ◌∷◌, ◌++◌, Option, Some, None, Bool, true, false, cond, refl, sym, ap, subst, map, take, drop, length, get_or, bytes_eq, length-map, get_or-map, take_more, take-append-drop, drop-cons, Span, arguments_from, Meaning, Named, look_up, argument_of, argument_place, own_places, Composition}
 use Rattle.wac_ast_grammar.specs.Tree.{InstantiationArgument}
-use Rattle.wac_ast_expressions.specs.declared.expr.InstantiationArgument.{InstantiationArgument as CodeArgument}
+use Rattle.wac_ast_statements.specs.declared.expr.InstantiationArgument.{InstantiationArgument as CodeArgument}
 
 -- where a name isn't found in the first list, the rest decides
 after_none : {X : Type 0} (name : List ℕ) (xs ys : Named X) → look_up name xs ≡ None → look_up name (xs ++ ys) ≡ look_up name ys

@@ -3,7 +3,7 @@ use Rattle.wac_resolution_expressions.proofs.Common.{◌≡◌, ◌∙◌, ◌+�
 use Rattle.std.proofs.lemmas.Grind.{flat_map-append}
 use Rattle.wac_ast_grammar.specs.Tree.{InstantiationArgument}
 use Rattle.wac_graph_types.specs.declared.kind.ItemKind.TheVariants as kinds
-use Rattle.wac_ast_expressions.specs.declared.expr.InstantiationArgument.{InstantiationArgument as CodeArgument}
+use Rattle.wac_ast_statements.specs.declared.expr.InstantiationArgument.{InstantiationArgument as CodeArgument}
 use Rattle.wac_resolution_expressions.specs.Places.{exports_at}
 
 -- ---- a node

@@ -3,7 +3,7 @@ use Rattle.wac_resolution_expressions.proofs.Common.{◌≡◌, ◌∙◌, ◌+�
 use Rattle.wac_ast_grammar.specs.Tree.{InstantiationArgument}
 use Rattle.wac_graph_types.specs.declared.kind.ItemKind.TheVariants as kinds
 use Rattle.wac_ast_base.specs.declared.names.Ident.{Ident as CodeIdent}
-use Rattle.wac_ast_expressions.specs.declared.expr.InstantiationArgument.{InstantiationArgument as CodeArgument, Inferred, Spread, Named', Fill}
+use Rattle.wac_ast_statements.specs.declared.expr.InstantiationArgument.{InstantiationArgument as CodeArgument, Inferred, Spread, Named', Fill}
 use Rattle.wac_resolution_expressions.specs.Arguments.{given_nodes}
 use Rattle.wac_resolution_expressions.specs.GivenByNodes.{Gave}
 use Rattle.wac_resolution_expressions.specs.Spreads.{giving_of, GivenThere, imports_at, NodeSpread}

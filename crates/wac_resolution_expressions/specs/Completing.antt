@@ -16,8 +16,8 @@ use Rattle.wac_resolution_rules.specs.BrokenExpressions.{SpreadBroken, Instantia
 use Rattle.wac_resolution_rules.specs.Expressions.{Giving, at, has_fill, spreads_of, IsComplete, Spreads, Instantiates}
 use Rattle.wac_resolution_rules.specs.Given.{Rules, imports_in}
 use Rattle.wac_resolution_rules.specs.Paths.{Context}
-use Rattle.wac_resolution_nodes.specs.Growth.{GrowsNodes}
-use Rattle.wac_resolution_nodes.specs.Nodes.{composition_of}
+use Rattle.wac_resolution_state.specs.NodeGrowth.{GrowsNodes}
+use Rattle.wac_resolution_state.specs.Nodes.{composition_of}
 use Rattle.wac_resolution_expressions.specs.Arguments.{given_nodes}
 use Rattle.wac_resolution_expressions.specs.Fits.{AllFit}
 use Rattle.wac_resolution_expressions.specs.Spreads.{giving_of, imports_at}

@@ -5,7 +5,7 @@ use Rattle.wac_graph.specs.declared.node.NodeId.{NodeId}
 use Rattle.wac_graph.specs.Graph.{Parts}
 use Rattle.wac_graph.specs.Origin.{Naming}
 use Rattle.wac_resolution_rules.specs.Expressions.{Giving}
-use Rattle.wac_resolution_nodes.specs.Growth.{GrowsNodes}
+use Rattle.wac_resolution_state.specs.NodeGrowth.{GrowsNodes}
 use Rattle.wac_resolution_expressions.specs.Spreads.{giving_of, GivenThere}
 
 -- nodes were added and given, and this holds of what was given before and after

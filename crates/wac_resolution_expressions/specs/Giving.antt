@@ -13,8 +13,8 @@ use Rattle.wac_resolution_errors.specs.Error.{Error, duplicate_instantiation_arg
 use Rattle.wac_resolution_rules.specs.BrokenExpressions.{ArgumentBroken, ArgumentsBroken}
 use Rattle.wac_resolution_rules.specs.Expressions.{Giving, Gives, GivesOne}
 use Rattle.wac_resolution_rules.specs.Given.{Rules}
-use Rattle.wac_resolution_paths.specs.declared.context.Context.{Context}
-use Rattle.wac_resolution_paths.specs.Context.{packages_in}
+use Rattle.wac_resolution_state.specs.declared.context.Context.{Context}
+use Rattle.wac_resolution_state.specs.Context.{packages_in}
 use Rattle.wac_resolution_expressions.specs.Arguments.{given_nodes}
 use Rattle.wac_resolution_expressions.specs.Spreads.{giving_of, imports_at, GivenThere}
 use Rattle.wac_resolution_expressions.specs.Growth.{Extends, given_in}

@@ -14,10 +14,10 @@ use Rattle.wac_resolution_errors.specs.Error.{Error}
 use Rattle.wac_resolution_rules.specs.BrokenExpressions.{ExprBroken}
 use Rattle.wac_resolution_rules.specs.Expressions.{at, Stands}
 use Rattle.wac_resolution_rules.specs.Given.{Given, Rules}
-use Rattle.wac_resolution_nodes.specs.Nodes.{composition_of, kind_in, NodesStand}
-use Rattle.wac_resolution_paths.specs.declared.context.Context.{Context}
-use Rattle.wac_resolution_paths.specs.Expands.{AllSupplied}
-use Rattle.wac_resolution_paths.specs.Context.{packages_in, context_of}
+use Rattle.wac_resolution_state.specs.Nodes.{composition_of, kind_in, NodesStand}
+use Rattle.wac_resolution_state.specs.declared.context.Context.{Context}
+use Rattle.wac_resolution_state.specs.Expands.{AllSupplied}
+use Rattle.wac_resolution_state.specs.Context.{packages_in, context_of}
 
 -- no resource was declared, each package and each node stays, and each kind means what it meant
 pub record Extends (packages : List (Key × PackageParts)) (old new : Parts) : Type 0 where

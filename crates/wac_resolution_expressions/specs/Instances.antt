@@ -9,8 +9,8 @@ use Rattle.wac_graph.specs.Origin.{Naming}
 use Rattle.wac_graph.specs.Package.{HeldPackage}
 use Rattle.wac_resolution_rules.specs.Expressions.{at}
 use Rattle.wac_resolution_rules.specs.Nodes.{next_of, with_instance}
-use Rattle.wac_resolution_nodes.specs.Growth.{GrowsNodes}
-use Rattle.wac_resolution_nodes.specs.Nodes.{composition_of}
+use Rattle.wac_resolution_state.specs.NodeGrowth.{GrowsNodes}
+use Rattle.wac_resolution_state.specs.Nodes.{composition_of}
 use Rattle.wac_resolution_expressions.specs.Arguments.{given_nodes}
 
 -- the node is the instance of the package with these arguments, which was made

@@ -9,9 +9,9 @@ use Rattle.wac_graph.specs.Origin.{Naming}
 use Rattle.wac_graph.specs.Package.{HeldPackage}
 use Rattle.wac_graph.specs.Packages.{contents_in}
 use Rattle.wac_resolution_rules.specs.Given.{Rules, instantiable, key_named}
-use Rattle.wac_resolution_nodes.specs.Nodes.{composition_of}
-use Rattle.wac_resolution_paths.specs.declared.context.Context.{Context}
-use Rattle.wac_resolution_paths.specs.Context.{packages_in}
+use Rattle.wac_resolution_state.specs.Nodes.{composition_of}
+use Rattle.wac_resolution_state.specs.declared.context.Context.{Context}
+use Rattle.wac_resolution_state.specs.Context.{packages_in}
 use Rattle.wac_resolution_expressions.specs.declared.packages.Loaded.{Loaded}
 use Rattle.wac_resolution_expressions.specs.Growth.{Extends, given_in}
 

@@ -8,9 +8,9 @@ use Rattle.wac_resolution_errors.specs.Error.{Error}
 use Rattle.wac_resolution_rules.specs.BrokenExpressions.{PrimaryBroken}
 use Rattle.wac_resolution_rules.specs.Expressions.{at, PrimaryStands}
 use Rattle.wac_resolution_rules.specs.Given.{Rules}
-use Rattle.wac_resolution_nodes.specs.Nodes.{composition_of}
-use Rattle.wac_resolution_paths.specs.declared.context.Context.{Context}
-use Rattle.wac_resolution_paths.specs.Context.{packages_in}
+use Rattle.wac_resolution_state.specs.Nodes.{composition_of}
+use Rattle.wac_resolution_state.specs.declared.context.Context.{Context}
+use Rattle.wac_resolution_state.specs.Context.{packages_in}
 use Rattle.wac_resolution_expressions.specs.Growth.{Extends, given_in}
 
 -- it denotes this node of the new graph

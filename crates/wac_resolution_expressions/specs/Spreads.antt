@@ -11,9 +11,9 @@ use Rattle.wac_graph.specs.Graph.{Parts}
 use Rattle.wac_graph.specs.Means.{entry_means}
 use Rattle.wac_graph.specs.Origin.{Naming}
 use Rattle.wac_resolution_rules.specs.Expressions.{Giving, at, alias_at, given_too, spread_from}
-use Rattle.wac_resolution_nodes.specs.Growth.{GrowsNodes}
-use Rattle.wac_resolution_nodes.specs.Instances.{IsInstance}
-use Rattle.wac_resolution_nodes.specs.Nodes.{composition_of}
+use Rattle.wac_resolution_state.specs.NodeGrowth.{GrowsNodes}
+use Rattle.wac_resolution_state.specs.Instances.{IsInstance}
+use Rattle.wac_resolution_state.specs.Nodes.{composition_of}
 use Rattle.wac_resolution_expressions.specs.Arguments.{given_nodes}
 
 -- the arguments given so far, and the composition

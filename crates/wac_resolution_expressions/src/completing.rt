@@ -4,11 +4,11 @@ ghost use Rattle.wac_ast_grammar.specs.Tree.{arguments_from};
 ghost use Rattle.wac_graph_types.specs.Names.{by_name};
 ghost use Rattle.wac_graph_types.specs.Table.{Names};
 ghost use Rattle.wac_ast_base.specs.Names.{package_name_of};
-ghost use Rattle.wac_ast_expressions.specs.Expressions.{argument_of};
+ghost use Rattle.wac_ast_statements.specs.Expressions.{argument_of};
 ghost use Rattle.wac_resolution_errors.specs.Told.{told};
 ghost use Rattle.wac_resolution_rules.specs.Errors.{ErrorSays};
 ghost use Rattle.wac_resolution_rules.specs.Given.{rules_of};
-ghost use Rattle.wac_resolution_nodes.specs.Root.{numbers_of, Agrees};
+ghost use Rattle.wac_resolution_state.specs.Root.{numbers_of, Agrees};
 ghost use Rattle.wac_resolution_expressions.specs.Fits.{AllFit};
 ghost use Rattle.wac_resolution_expressions.specs.Spreads.{GivenThere};
 ghost use Rattle.wac_resolution_expressions.specs.Completing.{misfit_of, AreRight, AreWrong, Completes, FailsToComplete};
@@ -24,12 +24,11 @@ use crate::spread_arguments::spreads;
 use indexmap::IndexMap;
 use std::alloc::{AllocError, Global};
 use wac_ast_base::PackageName;
-use wac_ast_expressions::NewExpr;
+use wac_ast_statements::NewExpr;
 use wac_graph::{ItemKind, NodeId, Reason, Rules, WorldId};
 use wac_lexer::SourceSpan;
 use wac_resolution_errors::Error;
-use wac_resolution_nodes::Scope;
-use wac_resolution_state::State;
+use wac_resolution_state::{Scope, State};
 
 /// What is reported of an argument that doesn't fit. Without a reason it is for no import.
 #[cold]

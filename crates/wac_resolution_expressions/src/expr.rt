@@ -3,12 +3,12 @@ ghost use Rattle.std.specs.Prelude.{[], IfOk, OnOk, map};
 ghost use Rattle.wac_ast_grammar.specs.Tree.{arguments_from};
 ghost use Rattle.wac_graph_types.specs.Names.{by_name};
 ghost use Rattle.wac_graph_types.specs.Table.{Names};
-ghost use Rattle.wac_ast_expressions.specs.Expressions.{argument_of, expr_of, new_expr_of, primary_expr_of};
+ghost use Rattle.wac_ast_statements.specs.Expressions.{argument_of, expr_of, new_expr_of, primary_expr_of};
 ghost use Rattle.wac_resolution_rules.specs.Errors.{ErrorSays};
 ghost use Rattle.wac_resolution_rules.specs.Given.{rules_of};
-ghost use Rattle.wac_resolution_nodes.specs.Root.{numbers_of, Agrees};
-ghost use Rattle.wac_resolution_paths.specs.Expands.{AllSupplied};
-ghost use Rattle.wac_resolution_paths.specs.Context.{packages_in};
+ghost use Rattle.wac_resolution_state.specs.Root.{numbers_of, Agrees};
+ghost use Rattle.wac_resolution_state.specs.Expands.{AllSupplied};
+ghost use Rattle.wac_resolution_state.specs.Context.{packages_in};
 ghost use Rattle.wac_resolution_expressions.specs.Spreads.{GivenThere};
 ghost use Rattle.wac_resolution_expressions.specs.Giving.{ArgumentStep, ArgumentBreaks, ArgumentSteps, ArgumentsBreak};
 ghost use Rattle.wac_resolution_expressions.specs.Growth.{ExprStep, ExprBreaks};
@@ -18,11 +18,10 @@ use crate::completing::complete;
 use crate::given::{check_last, give_inferred, give_named};
 use crate::packages::instantiable;
 use indexmap::IndexMap;
-use wac_ast_expressions::{Expr, InstantiationArgument, NewExpr, PrimaryExpr};
+use wac_ast_statements::{Expr, InstantiationArgument, NewExpr, PrimaryExpr};
 use wac_graph::{ItemKind, NodeId, Rules, WorldId};
 use wac_resolution_errors::Error;
-use wac_resolution_nodes::{Scope, accesses};
-use wac_resolution_state::State;
+use wac_resolution_state::{Scope, State, accesses};
 
 /// An argument whose turn it is.
 #[derive(Clone, Copy)]

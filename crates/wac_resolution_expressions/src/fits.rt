@@ -8,7 +8,7 @@ ghost use Rattle.wac_graph_types.specs.Table.{Names};
 ghost use Rattle.wac_graph.specs.Means.{means};
 ghost use Rattle.wac_graph.specs.Origin.{Naming, IsOneToOne};
 ghost use Rattle.wac_resolution_rules.specs.Composition.{kind_at};
-ghost use Rattle.wac_resolution_nodes.specs.Nodes.{composition_of};
+ghost use Rattle.wac_resolution_state.specs.Nodes.{composition_of};
 ghost use Rattle.wac_resolution_rules.specs.Given.{rules_of};
 ghost use Rattle.wac_resolution_expressions.specs.Fits.{IsFit, IsAgainst, AllFit, IsFirstMisfit};
 ghost use Rattle.wac_resolution_expressions.specs.Spreads.{GivenThere};

@@ -7,14 +7,14 @@ ghost use Rattle.wac_graph_types.specs.Scope.{IsFresh, with_named};
 ghost use Rattle.wac_graph_types.specs.Shape.{imports_of};
 ghost use Rattle.wac_graph_types.specs.Table.{Names};
 ghost use Rattle.wac_ast_base.specs.Names.{ident_of};
-ghost use Rattle.wac_ast_expressions.specs.Expressions.{argument_name_of};
+ghost use Rattle.wac_ast_statements.specs.Expressions.{argument_name_of};
 ghost use Rattle.wac_graph.specs.Origin.{Naming};
 ghost use Rattle.wac_resolution_errors.specs.Told.{told};
 ghost use Rattle.wac_resolution_rules.specs.BrokenExpressions.{ArgumentBroken, IsFillNotLast};
 ghost use Rattle.wac_resolution_rules.specs.Errors.{ErrorSays};
 ghost use Rattle.wac_resolution_rules.specs.Expressions.{GivesOne, IsEmpty, name_meant};
 ghost use Rattle.wac_resolution_rules.specs.Given.{Given};
-ghost use Rattle.wac_resolution_nodes.specs.Root.{numbers_of, Agrees};
+ghost use Rattle.wac_resolution_state.specs.Root.{numbers_of, Agrees};
 ghost use Rattle.wac_resolution_expressions.specs.GivenByNodes.{Gave};
 ghost use Rattle.wac_resolution_expressions.specs.Spreads.{giving_of, imports_at, GivenThere};
 ghost use Rattle.wac_resolution_expressions.specs.Giving.{is_none, GivesNode, IsGiven, GivesFor, IsGivenFor};
@@ -23,13 +23,12 @@ use crate::meant::{inferred_name, written_name};
 use indexmap::IndexMap;
 use std::alloc::Global;
 use wac_ast_base::Ident;
-use wac_ast_expressions::InstantiationArgumentName;
+use wac_ast_statements::InstantiationArgumentName;
 use wac_graph::names::{find, push};
 use wac_graph::{ItemKind, NodeId, WorldId};
 use wac_lexer::SourceSpan;
 use wac_resolution_errors::Error;
-use wac_resolution_nodes::Root;
-use wac_resolution_state::State;
+use wac_resolution_state::{Root, State};
 
 /// Gives a node for a name for which none is given yet.
 #[tactic(auto, using(wac_resolution_state::proofs::Scopes::memory_told))]

@@ -11,11 +11,11 @@ ghost use Rattle.wac_graph.specs.Means.{declared_count};
 ghost use Rattle.wac_graph.specs.Origin.{Naming};
 ghost use Rattle.wac_graph.specs.Package.{Key, HeldPackage};
 ghost use Rattle.wac_graph.specs.Packages.{contents_in};
-ghost use Rattle.wac_resolution_nodes.specs.declared.root.Root.{Root};
-ghost use Rattle.wac_resolution_nodes.specs.Growth.{GrowsNodes};
-ghost use Rattle.wac_resolution_nodes.specs.Nodes.{composition_of, NodesStand};
-ghost use Rattle.wac_resolution_nodes.specs.Root.{Agrees};
-ghost use Rattle.wac_resolution_paths.specs.Expands.{Expands, AllSupplied};
+ghost use Rattle.wac_resolution_state.specs.declared.root.Root.{Root};
+ghost use Rattle.wac_resolution_state.specs.NodeGrowth.{GrowsNodes};
+ghost use Rattle.wac_resolution_state.specs.Nodes.{composition_of, NodesStand};
+ghost use Rattle.wac_resolution_state.specs.Root.{Agrees};
+ghost use Rattle.wac_resolution_state.specs.Expands.{Expands, AllSupplied};
 ghost use Rattle.wac_resolution_expressions.specs.Spreads.{GivenThere, imports_at};
 ghost use Rattle.wac_resolution_expressions.specs.Growth.{Extends};
 

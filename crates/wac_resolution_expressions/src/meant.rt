@@ -6,24 +6,23 @@ ghost use Rattle.wac_graph_types.specs.Names.{by_name};
 ghost use Rattle.wac_graph_types.specs.Scope.{Named};
 ghost use Rattle.wac_graph_types.specs.Shape.{imports_of, items_mean};
 ghost use Rattle.wac_graph_types.specs.Table.{Names};
-ghost use Rattle.wac_ast_expressions.specs.Expressions.{argument_name_of};
+ghost use Rattle.wac_ast_statements.specs.Expressions.{argument_name_of};
 ghost use Rattle.wac_graph.specs.Means.{entry_means};
 ghost use Rattle.wac_graph.specs.Origin.{Naming};
 ghost use Rattle.wac_resolution_rules.specs.Expressions.{name_meant, if_imported, name_inferred};
 ghost use Rattle.wac_resolution_rules.specs.Find.{find_name as found_name};
 ghost use Rattle.wac_resolution_rules.specs.Nodes.{node_at};
-ghost use Rattle.wac_resolution_nodes.specs.Nodes.{composition_of};
+ghost use Rattle.wac_resolution_state.specs.Nodes.{composition_of};
 
 use indexmap::IndexMap;
 use std::alloc::AllocError;
-use wac_ast_expressions::InstantiationArgumentName;
+use wac_ast_statements::InstantiationArgumentName;
 use wac_graph::names::find;
 use wac_graph::{ItemKind, NodeId, WorldId};
-use wac_resolution_nodes::{find_name, instance_id, own_name};
-use wac_resolution_state::State;
+use wac_resolution_state::{State, find_name, instance_id, own_name};
 
 /// The import that an argument's name means: an identifier by find, a string as it is.
-#[tactic(auto, using(wac_resolution_nodes::proofs::Found::found_meant))]
+#[tactic(auto, using(wac_resolution_state::proofs::Found::found_meant))]
 fn meant<'x>(
     name: &'x InstantiationArgumentName<'_>,
     imports: Option<&'x IndexMap<String, ItemKind>>,

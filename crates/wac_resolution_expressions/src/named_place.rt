@@ -3,18 +3,17 @@ ghost use Rattle.std.specs.Prelude.{◌≡◌, [], ◌∷◌, map};
 ghost use Rattle.wac_ast_grammar.specs.Tree.{arguments_from};
 ghost use Rattle.wac_graph_types.specs.Scope.{look_up};
 ghost use Rattle.wac_graph_types.specs.Table.{Names};
-ghost use Rattle.wac_ast_expressions.specs.Expressions.{argument_of};
+ghost use Rattle.wac_ast_statements.specs.Expressions.{argument_of};
 ghost use Rattle.wac_graph.specs.Origin.{Naming};
 ghost use Rattle.wac_resolution_rules.specs.BrokenExpressions.{argument_place, own_places as places_of_own};
-ghost use Rattle.wac_resolution_nodes.specs.Root.{composed, Agrees};
+ghost use Rattle.wac_resolution_state.specs.Root.{composed, Agrees};
 ghost use Rattle.wac_resolution_expressions.specs.Spreads.{imports_at};
 
 use crate::own_place::own_place;
-use wac_ast_expressions::InstantiationArgument;
+use wac_ast_statements::InstantiationArgument;
 use wac_graph::{ItemKind, WorldId};
 use wac_lexer::SourceSpan;
-use wac_resolution_nodes::Root;
-use wac_resolution_state::State;
+use wac_resolution_state::{Root, State};
 
 /// The place of a name, if it is this one.
 fn if_named(text: &str, span: SourceSpan, name: &str) -> Option<SourceSpan>

@@ -3,20 +3,19 @@ ghost use Rattle.std.specs.Prelude.{◌≡◌, option_map};
 ghost use Rattle.wac_ast_grammar.specs.Tree.{InstantiationArgument as ArgumentTree};
 ghost use Rattle.wac_graph_types.specs.Table.{Names};
 ghost use Rattle.wac_ast_base.specs.Names.{ident_of};
-ghost use Rattle.wac_ast_expressions.specs.Expressions.{argument_of};
+ghost use Rattle.wac_ast_statements.specs.Expressions.{argument_of};
 ghost use Rattle.wac_graph.specs.Origin.{Naming};
 ghost use Rattle.wac_resolution_rules.specs.BrokenExpressions.{argument_place};
-ghost use Rattle.wac_resolution_nodes.specs.Root.{composed, Agrees};
+ghost use Rattle.wac_resolution_state.specs.Root.{composed, Agrees};
 ghost use Rattle.wac_resolution_expressions.specs.AtMostOne.{at_most_one};
 ghost use Rattle.wac_resolution_expressions.specs.Spreads.{imports_at};
 
 use crate::meant::{inferred_import, written_import};
 use wac_ast_base::Ident;
-use wac_ast_expressions::InstantiationArgument;
+use wac_ast_statements::InstantiationArgument;
 use wac_graph::{ItemKind, WorldId};
 use wac_lexer::SourceSpan;
-use wac_resolution_nodes::Root;
-use wac_resolution_state::State;
+use wac_resolution_state::{Root, State};
 
 /// The name for which the node of an identifier is given, and its place.
 fn inferred_place<'x>(

@@ -8,9 +8,9 @@ ghost use Rattle.wac_resolution_errors.specs.Told.{told};
 ghost use Rattle.wac_resolution_rules.specs.BrokenExpressions.{IsUnknownPackage};
 ghost use Rattle.wac_resolution_rules.specs.Errors.{ErrorSays};
 ghost use Rattle.wac_resolution_rules.specs.Given.{Rules, key_named};
-ghost use Rattle.wac_resolution_nodes.specs.Nodes.{NodesStand};
-ghost use Rattle.wac_resolution_paths.specs.Expands.{AllSupplied, Loads, IsNotSupplied};
-ghost use Rattle.wac_resolution_paths.specs.Context.{packages_in};
+ghost use Rattle.wac_resolution_state.specs.Nodes.{NodesStand};
+ghost use Rattle.wac_resolution_state.specs.Expands.{AllSupplied, Loads, IsNotSupplied};
+ghost use Rattle.wac_resolution_state.specs.Context.{packages_in};
 ghost use Rattle.wac_resolution_expressions.specs.Growth.{given_in};
 ghost use Rattle.wac_resolution_expressions.specs.Loaded.{IsInstantiable};
 
@@ -18,8 +18,7 @@ use std::alloc::{AllocError, Global};
 use wac_ast_base::PackageName;
 use wac_graph::{PackageId, WorldId};
 use wac_resolution_errors::Error;
-use wac_resolution_paths::{Context, package as load_package, package_key};
-use wac_resolution_state::State;
+use wac_resolution_state::{Context, State, package as load_package, package_key};
 
 /// A package that the graph holds.
 #[derive(Clone, Copy)]

@@ -4,24 +4,23 @@ ghost use Rattle.wac_ast_grammar.specs.Tree.{arguments_from};
 ghost use Rattle.wac_graph_types.specs.Scope.{Named, look_up};
 ghost use Rattle.wac_graph_types.specs.Table.{Names};
 ghost use Rattle.wac_ast_base.specs.Names.{ident_of};
-ghost use Rattle.wac_ast_expressions.specs.Expressions.{argument_of};
+ghost use Rattle.wac_ast_statements.specs.Expressions.{argument_of};
 ghost use Rattle.wac_graph.specs.Graph.{export_kind};
 ghost use Rattle.wac_graph.specs.Origin.{Naming};
 ghost use Rattle.wac_resolution_rules.specs.BrokenExpressions.{argument_places, spread_places as places_of_spread};
 ghost use Rattle.wac_resolution_rules.specs.Expressions.{spread_of, spreads_of};
 ghost use Rattle.wac_resolution_rules.specs.Nodes.{instance_at};
-ghost use Rattle.wac_resolution_nodes.specs.Nodes.{composition_of};
-ghost use Rattle.wac_resolution_nodes.specs.Root.{composed, Agrees};
+ghost use Rattle.wac_resolution_state.specs.Nodes.{composition_of};
+ghost use Rattle.wac_resolution_state.specs.Root.{composed, Agrees};
 ghost use Rattle.wac_resolution_expressions.specs.Spreads.{imports_at};
 ghost use Rattle.wac_resolution_expressions.specs.Places.{exports_at};
 
 use crate::named_place::own_places;
 use wac_ast_base::Ident;
-use wac_ast_expressions::InstantiationArgument;
+use wac_ast_statements::InstantiationArgument;
 use wac_graph::{ItemKind, NodeId, WorldId};
 use wac_lexer::SourceSpan;
-use wac_resolution_nodes::Root;
-use wac_resolution_state::State;
+use wac_resolution_state::{Root, State};
 
 /// The span, if the node is an instance that exports the name.
 fn if_exported(state: &State, node: NodeId, name: &str, span: SourceSpan) -> Option<SourceSpan>

@@ -4,15 +4,14 @@ ghost use Rattle.wac_graph_types.specs.Names.{by_name};
 ghost use Rattle.wac_graph_types.specs.Readings.{world_imports};
 ghost use Rattle.wac_graph_types.specs.Table.{Names};
 ghost use Rattle.wac_resolution_rules.specs.Find.{names_of};
-ghost use Rattle.wac_resolution_nodes.specs.Nodes.{NodesStand};
+ghost use Rattle.wac_resolution_state.specs.Nodes.{NodesStand};
 ghost use Rattle.wac_resolution_expressions.specs.Spreads.{GivenThere, NamesSpread, NodeSpread};
 
 use indexmap::IndexMap;
 use std::alloc::{AllocError, Global};
 use wac_graph::names::{find, push};
 use wac_graph::{ItemKind, NodeId, WorldId};
-use wac_resolution_nodes::alias;
-use wac_resolution_state::State;
+use wac_resolution_state::{State, alias};
 
 /// The names, copied.
 fn copied_names(alloc: Global, all: &IndexMap<String, ItemKind>) -> Result<Vec<String>, AllocError>

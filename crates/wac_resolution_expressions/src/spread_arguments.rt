@@ -1,31 +1,29 @@
 //! Arguments that are spreads.
 ghost use Rattle.std.specs.Prelude.{◌≡◌, ◌≢◌, List, IfErr, OnOk, length, map};
-ghost use Rattle.wac_ast_grammar.specs.Tree.{Ident as IdentTree};
+ghost use Rattle.wac_ast_grammar.specs.Tree.{Ident as IdentTree, arguments_from};
 ghost use Rattle.wac_graph_types.specs.Names.{by_name};
 ghost use Rattle.wac_graph_types.specs.Steps.{Steps, Fails};
 ghost use Rattle.wac_graph_types.specs.Table.{Names};
-ghost use Rattle.wac_ast_grammar.specs.Tree.{arguments_from};
 ghost use Rattle.wac_ast_base.specs.Names.{ident_of};
-ghost use Rattle.wac_ast_expressions.specs.Expressions.{argument_of};
+ghost use Rattle.wac_ast_statements.specs.Expressions.{argument_of};
 ghost use Rattle.wac_graph.specs.Origin.{Naming};
 ghost use Rattle.wac_resolution_errors.specs.Error.{spread_instantiation_no_match};
 ghost use Rattle.wac_resolution_errors.specs.Told.{told};
 ghost use Rattle.wac_resolution_rules.specs.Expressions.{Spreads, spread_of, spreads_of};
 ghost use Rattle.wac_resolution_rules.specs.BrokenExpressions.{SpreadBroken};
 ghost use Rattle.wac_resolution_rules.specs.Errors.{ErrorSays};
-ghost use Rattle.wac_resolution_nodes.specs.Root.{numbers_of, Agrees};
+ghost use Rattle.wac_resolution_state.specs.Root.{numbers_of, Agrees};
 ghost use Rattle.wac_resolution_expressions.specs.GivenByNodes.{Gave};
 ghost use Rattle.wac_resolution_expressions.specs.Spreads.{giving_of, imports_at, GivenThere};
 
 use crate::spread::spread_from;
 use indexmap::IndexMap;
 use wac_ast_base::Ident;
-use wac_ast_expressions::InstantiationArgument;
+use wac_ast_statements::InstantiationArgument;
 use wac_graph::{ItemKind, NodeId, WorldId};
 use wac_lexer::SourceSpan;
 use wac_resolution_errors::{Error, InstanceOperation};
-use wac_resolution_nodes::{Root, instance};
-use wac_resolution_state::State;
+use wac_resolution_state::{Root, State, instance};
 
 /// Rejects a spread that gave nothing: this many arguments were given before it.
 fn check_more(

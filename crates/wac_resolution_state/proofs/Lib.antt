@@ -4,3 +4,15 @@ pub mod Added
 pub mod Grown
 pub mod Scopes
 pub mod Sizes
+pub mod Keys
+pub mod Walks
+pub mod Expanding
+pub mod Loading
+pub mod Leading
+pub mod Joining
+pub mod Finding
+pub mod Composed
+pub mod Roots
+pub mod Found
+pub mod Instances
+pub mod NodeNames

@@ -1,3 +1,11 @@
 pub mod Bindings
 pub mod Growth
 pub mod Named
+pub mod Expands
+pub mod Context
+pub mod Segments
+pub mod Nodes
+pub mod Root
+pub mod NodeGrowth
+pub mod Instances
+pub mod Accesses

@@ -6,3 +6,8 @@ pub mod NamesAlone
 pub mod DeclarationParts
 pub mod Aliasing
 pub mod TypeDecls
+pub mod Found
+pub mod Lists
+pub mod Going
+pub mod Methods
+pub mod Declared

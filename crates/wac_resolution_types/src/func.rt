@@ -13,14 +13,13 @@ ghost use Rattle.wac_graph.specs.Graph.{Parts};
 ghost use Rattle.wac_graph.specs.Means.{entry_means};
 ghost use Rattle.wac_graph.specs.Origin.{Naming};
 ghost use Rattle.wac_resolution_errors.specs.Error.{duplicate_parameter};
-ghost use Rattle.wac_resolution_rules.specs.Types.{first_params};
+ghost use Rattle.wac_resolution_rules.specs.Types.{first_params, IsFuncWith};
 ghost use Rattle.wac_resolution_rules.specs.BrokenTypes.{IsRepeated, ParamBroken, ParamsBroken, FuncBroken};
 ghost use Rattle.wac_resolution_rules.specs.BrokenBodies.{method_kind};
 ghost use Rattle.wac_resolution_rules.specs.Errors.{ErrorSays};
 ghost use Rattle.wac_resolution_state.specs.Bindings.{values_of};
 ghost use Rattle.wac_resolution_types.specs.Funcs.{types_named, TypesNamed, ParamStep, ParamSteps, FuncAdded, FuncIs, ConstructorIs, own_params};
 ghost use Rattle.wac_resolution_state.specs.Named.{scope_of};
-ghost use Rattle.wac_resolution_rules.specs.Types.{IsFuncWith};
 
 use crate::results::results;
 use crate::types::value_type;

@@ -1,12 +1,13 @@
 -- Includes of worlds, in order.
-use Rattle.wac_resolution_worlds.proofs.Common.{◌≡◌, ◌∙◌, ◌+◌, ◌<◌, ◌⊎◌, inl, inr, ℕ, suc, List, [], ◌∷◌, ◌++◌, Option, Some, None, refl, sym, ap, subst, map, take, drop, length, get_or, cons_option, take-append-drop, take_more, length-map, get_or-map, WorldInclude, ItemKind, UsedType, Meaning, Named, Scope, Uses, IsA, is_world_form, entry_of, items_mean, uses_mean, Steps, Fails, ItemsNamed, Parts, means, entry_means, declared_count, Naming, Error, Body, WorldRefBroken, IsNoWorld, TakingBroken, IncludeBroken, Included, HasInclude, include_in, includes_of, values_of, scope_of, Expands, AllSupplied, Found, packages_in, context_of, expands_self, expands_on, items_expanded, scope_expanded, Lists, body_in, UsesNamed, Renamings, entries_of, AreAll}
+use Rattle.wac_resolution_worlds.proofs.Common.{◌≡◌, ◌∙◌, ◌+◌, ◌<◌, ◌⊎◌, inl, inr, ℕ, suc, List, [], ◌∷◌, ◌++◌, Option, Some, None, refl, sym, ap, subst, map, take, drop, length, get_or, cons_option, take-append-drop, take_more, length-map, get_or-map, WorldInclude, ItemKind, UsedType, Meaning, Named, Scope, Uses, IsA, is_world_form, entry_of, items_mean, uses_mean, Steps, Fails, ItemsNamed, Parts, means, entry_means, declared_count, Naming, Error, Body, WorldRefBroken, IsNoWorld, TakingBroken, IncludeBroken, Included, HasInclude, include_in, includes_of, values_of, scope_of, Expands, AllSupplied, Found, packages_in, context_of, expands_self, expands_on, items_expanded, scope_expanded, Lists, body_in, UsesNamed}
+use Rattle.wac_resolution_worlds.specs.Entries.{Renamings, entries_of, AreAll}
 use Rattle.std.proofs.lemmas.List.Elements.{filter_map-append}
 use Rattle.std.proofs.Math.Seq.{drop-cons}
 use Rattle.wac_ast_grammar.specs.Tree.{WorldItem}
 use Rattle.wac_graph_types.specs.declared.kind.ItemKind.TheVariants as kinds
 use Rattle.wac_resolution_rules.specs.Paths as rules
-use Rattle.wac_resolution_paths.specs.declared.context.Context.{Context}
-use Rattle.wac_resolution_includes.specs.Taking.{with_both, IsIncluded}
+use Rattle.wac_resolution_state.specs.declared.context.Context.{Context}
+use Rattle.wac_resolution_worlds.specs.Taking.{with_both, IsIncluded}
 use Rattle.wac_resolution_worlds.specs.WorldItems.{AreNamed, IncludeSteps, IncludeStep}
 
 -- ---- more types and packages

@@ -6,8 +6,8 @@ use Rattle.wac_graph_types.specs.declared.kind.ItemKind.TheVariants as kinds
 use Rattle.wac_ast_worlds.specs.declared.interface.InterfaceItem.{InterfaceItem as CodeInterfaceItem}
 use Rattle.wac_resolution_errors.specs.declared.error.Error.{Error as CodeError}
 use Rattle.wac_resolution_rules.specs.Paths as rules
-use Rattle.wac_resolution_paths.specs.declared.context.Context.{Context}
-use Rattle.wac_resolution_bodies.proofs.Methods.{func_goes}
+use Rattle.wac_resolution_state.specs.declared.context.Context.{Context}
+use Rattle.wac_resolution_types.proofs.Methods.{func_goes}
 use Rattle.wac_resolution_worlds.specs.Made.{no_lists, FuncExportStep, InterfaceItemStep, InterfaceItemSteps, InterfaceOf, InterfaceMade}
 use Rattle.wac_resolution_worlds.specs.Referred.{FuncRefIs}
 use Rattle.wac_resolution_worlds.proofs.Growing.{goes_expand}

@@ -10,3 +10,7 @@ pub mod WorldItems
 pub mod Including
 pub mod WorldBodies
 pub mod Declaring
+pub mod Found
+pub mod Read
+pub mod Taken
+pub mod Worlds

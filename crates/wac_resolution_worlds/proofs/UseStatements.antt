@@ -3,7 +3,7 @@ use Rattle.wac_resolution_worlds.proofs.Common.{◌≡◌, ◌∙◌, inl, inr, 
 use Rattle.wac_ast_grammar.specs.Tree.{Use}
 use Rattle.wac_graph_types.specs.declared.kind.ItemKind.TheVariants as kinds
 use Rattle.wac_graph_types.specs.declared.kind.«Type».TheVariants as types
-use Rattle.wac_resolution_paths.specs.declared.context.Context.{Context}
+use Rattle.wac_resolution_state.specs.declared.context.Context.{Context}
 use Rattle.wac_resolution_worlds.specs.Used.{UseSteps}
 use Rattle.wac_resolution_worlds.specs.UseStatements.{IsInterface, IsNoneNamed, UseStatementStep}
 

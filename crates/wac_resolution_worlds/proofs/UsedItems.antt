@@ -6,7 +6,7 @@ use Rattle.wac_graph_types.specs.declared.kind.ItemKind.TheVariants as kinds
 use Rattle.wac_graph_types.specs.declared.kind.«Type».TheVariants as types
 use Rattle.wac_graph_types.specs.declared.kind.ResourceId.{ResourceId}
 use Rattle.wac_resolution_rules.proofs.Scopes.{fresh_before, fresh_after}
-use Rattle.wac_resolution_bodies.proofs.Found.{fresh_value}
+use Rattle.wac_resolution_types.proofs.Found.{fresh_value}
 use Rattle.wac_resolution_worlds.specs.Used.{IsThere, IsUsed, UseStep, UseSteps}
 
 -- ---- what an interface exports

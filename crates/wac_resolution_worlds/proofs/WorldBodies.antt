@@ -4,7 +4,7 @@ use Rattle.wac_ast_grammar.specs.Tree.{Use, WorldItem}
 use Rattle.wac_graph_types.specs.declared.kind.ExternKind.TheVariants as sides
 use Rattle.wac_ast_worlds.specs.declared.world.WorldItem.{WorldItem as CodeWorldItem}
 use Rattle.wac_resolution_errors.specs.declared.error.Error.{Error as CodeError}
-use Rattle.wac_resolution_paths.specs.declared.context.Context.{Context}
+use Rattle.wac_resolution_state.specs.declared.context.Context.{Context}
 use Rattle.wac_resolution_worlds.specs.Made.{no_lists}
 use Rattle.wac_resolution_worlds.specs.WorldItems.{WorldItemStep, WorldItemSteps, AreNamed, IncludeSteps, WorldOf, WorldMade}
 use Rattle.wac_resolution_worlds.proofs.Growing.{goes_expand}

@@ -6,7 +6,7 @@ use Rattle.wac_ast_worlds.specs.declared.world.ExternType.{ExternType as CodeExt
 use Rattle.wac_ast_worlds.specs.declared.world.WorldItemPath.{WorldItemPath as CodeWorldItemPath}
 use Rattle.wac_resolution_errors.specs.declared.error.Error.{Error as CodeError}
 use Rattle.wac_resolution_rules.specs.Paths as rules
-use Rattle.wac_resolution_paths.specs.declared.context.Context.{Context}
+use Rattle.wac_resolution_state.specs.declared.context.Context.{Context}
 use Rattle.wac_resolution_worlds.specs.UseStatements.{BodyExpands}
 use Rattle.wac_resolution_worlds.specs.Instances.{IsInterfaceKind}
 use Rattle.wac_resolution_worlds.specs.Made.{InterfaceMade}

@@ -11,8 +11,8 @@ use Rattle.wac_graph.specs.Means.{declared_count}
 use Rattle.wac_resolution_rules.specs.TypeStatements.{version_part, declared_id}
 use Rattle.wac_resolution_rules.specs.Worlds.{IsInterface, IsWorld}
 use Rattle.wac_resolution_state.specs.Named.{scope_of}
-use Rattle.wac_resolution_paths.specs.declared.context.Context.{Context}
-use Rattle.wac_resolution_paths.specs.Context.{packages_in, context_of}
+use Rattle.wac_resolution_state.specs.declared.context.Context.{Context}
+use Rattle.wac_resolution_state.specs.Context.{packages_in, context_of}
 use Rattle.wac_resolution_worlds.specs.Made.{KindMade}
 
 -- the id of an interface or world of this name that the document declares

@@ -5,3 +5,5 @@ pub mod Instances
 pub mod Made
 pub mod WorldItems
 pub mod Declarations
+pub mod Entries
+pub mod Taking

@@ -21,11 +21,11 @@ use Rattle.wac_resolution_rules.specs.Places.{used_at}
 use Rattle.wac_resolution_rules.specs.Spans.{use_path_name, use_path_span}
 use Rattle.wac_resolution_state.specs.Bindings.{places_of}
 use Rattle.wac_resolution_state.specs.Named.{scope_of}
-use Rattle.wac_resolution_paths.specs.declared.context.Context.{Context}
-use Rattle.wac_resolution_paths.specs.Expands.{Expands, AllSupplied, Found}
-use Rattle.wac_resolution_paths.specs.Context.{packages_in, context_of}
-use Rattle.wac_resolution_bodies.specs.Lists.{Lists}
-use Rattle.wac_resolution_bodies.specs.Bodies.{body_in, IsBody}
+use Rattle.wac_resolution_state.specs.declared.context.Context.{Context}
+use Rattle.wac_resolution_state.specs.Expands.{Expands, AllSupplied, Found}
+use Rattle.wac_resolution_state.specs.Context.{packages_in, context_of}
+use Rattle.wac_resolution_types.specs.Lists.{Lists}
+use Rattle.wac_resolution_types.specs.Bodies.{body_in, IsBody}
 
 -- the path or identifier names this interface
 abbrev pub IsInterface : Context → Parts → Parts → Named ItemKind → UsePath → InterfaceId → Type 0

@@ -13,8 +13,8 @@ use Rattle.wac_graph.specs.Means.{means}
 use Rattle.wac_graph.specs.Origin.{Naming}
 use Rattle.wac_resolution_rules.specs.Bodies.{used_as, UsesItem}
 use Rattle.wac_resolution_rules.specs.Places.{at_ident, used_at}
-use Rattle.wac_resolution_bodies.specs.Lists.{Lists}
-use Rattle.wac_resolution_bodies.specs.Bodies.{BodyStep}
+use Rattle.wac_resolution_types.specs.Lists.{Lists}
+use Rattle.wac_resolution_types.specs.Bodies.{BodyStep}
 
 -- the interface exports this kind under the name
 pub record IsThere (g : Parts) (i : InterfaceId) (x : UseItem) (k : ItemKind) : Type 0 where

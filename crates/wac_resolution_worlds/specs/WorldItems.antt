@@ -24,11 +24,11 @@ use Rattle.wac_resolution_rules.specs.Worlds.{HasExternType, HasInstance, HasExt
 use Rattle.wac_resolution_state.specs.Bindings.{values_of}
 use Rattle.wac_resolution_state.specs.Growth.{AddsWorld}
 use Rattle.wac_resolution_state.specs.Named.{scope_of}
-use Rattle.wac_resolution_paths.specs.declared.context.Context.{Context}
-use Rattle.wac_resolution_paths.specs.Expands.{Expands, AllSupplied}
-use Rattle.wac_resolution_paths.specs.Context.{packages_in, context_of}
-use Rattle.wac_resolution_bodies.specs.Lists.{Lists}
-use Rattle.wac_resolution_bodies.specs.Bodies.{body_in, UsesNamed, BodyStep}
+use Rattle.wac_resolution_state.specs.declared.context.Context.{Context}
+use Rattle.wac_resolution_state.specs.Expands.{Expands, AllSupplied}
+use Rattle.wac_resolution_state.specs.Context.{packages_in, context_of}
+use Rattle.wac_resolution_types.specs.Lists.{Lists}
+use Rattle.wac_resolution_types.specs.Bodies.{body_in, UsesNamed, BodyStep}
 use Rattle.wac_resolution_worlds.specs.UseStatements.{BodyExpands}
 use Rattle.wac_resolution_worlds.specs.Made.{KindMade}
 

@@ -9,8 +9,8 @@ ghost use Rattle.wac_resolution_rules.specs.Errors.{ErrorSays};
 ghost use Rattle.wac_resolution_rules.specs.TypeStatements.{version_part};
 ghost use Rattle.wac_resolution_state.specs.Bindings.{values_of};
 ghost use Rattle.wac_resolution_state.specs.Named.{scope_of};
-ghost use Rattle.wac_resolution_paths.specs.Expands.{AllSupplied};
-ghost use Rattle.wac_resolution_paths.specs.Context.{packages_in, context_of};
+ghost use Rattle.wac_resolution_state.specs.Expands.{AllSupplied};
+ghost use Rattle.wac_resolution_state.specs.Context.{packages_in, context_of};
 ghost use Rattle.wac_resolution_worlds.specs.Declarations.{id_text, InterfaceDeclared, WorldDeclared};
 
 use crate::interfaces::interface;
@@ -20,8 +20,7 @@ use std::alloc::{AllocError, Global};
 use wac_ast_worlds::{InterfaceDecl, WorldDecl, WorldItem};
 use wac_graph::{ItemKind, Type};
 use wac_resolution_errors::Error;
-use wac_resolution_paths::Context;
-use wac_resolution_state::State;
+use wac_resolution_state::{Context, State};
 
 /// Adds a version after `@`, if there is one.
 fn push_version(text: &mut String, version: Option<&str>) -> Result<(), AllocError>

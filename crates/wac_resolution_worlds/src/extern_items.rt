@@ -12,11 +12,11 @@ ghost use Rattle.wac_resolution_rules.specs.Errors.{ErrorSays};
 ghost use Rattle.wac_resolution_rules.specs.Paths as rules;
 ghost use Rattle.wac_resolution_state.specs.Bindings.{values_of};
 ghost use Rattle.wac_resolution_state.specs.Named.{scope_of};
-ghost use Rattle.wac_resolution_paths.specs.Expands.{AllSupplied};
-ghost use Rattle.wac_resolution_paths.specs.Context.{packages_in, context_of};
-ghost use Rattle.wac_resolution_bodies.specs.Lists.{lists_of};
-ghost use Rattle.wac_resolution_bodies.specs.Bodies.{body_of, IsBody};
-ghost use Rattle.wac_resolution_bodies.specs.Owners.{owner_of};
+ghost use Rattle.wac_resolution_state.specs.Expands.{AllSupplied};
+ghost use Rattle.wac_resolution_state.specs.Context.{packages_in, context_of};
+ghost use Rattle.wac_resolution_types.specs.Lists.{lists_of};
+ghost use Rattle.wac_resolution_types.specs.Bodies.{body_of, IsBody};
+ghost use Rattle.wac_resolution_types.specs.Owners.{owner_of};
 ghost use Rattle.wac_resolution_worlds.specs.WorldItems.{ExternMade, IdentStep, ExternStep};
 
 use crate::externs::named_extern;
@@ -27,10 +27,9 @@ use crate::outer_scope::OuterScope;
 use wac_ast_base::{Ident, PackagePath};
 use wac_ast_worlds::{ExternType, NamedWorldItem, WorldItemPath};
 use wac_graph::ItemKind;
-use wac_resolution_bodies::{Body, Section, check_extern};
 use wac_resolution_errors::Error;
-use wac_resolution_paths::path;
-use wac_resolution_state::{Names, State, kind_of};
+use wac_resolution_state::{Names, State, kind_of, path};
+use wac_resolution_types::{Body, Section, check_extern};
 
 /// The kind of an import or export that is given a name.
 fn extern_type(

@@ -12,20 +12,19 @@ ghost use Rattle.wac_resolution_rules.specs.Includes.{HasInclude};
 ghost use Rattle.wac_resolution_rules.specs.Worlds.{includes_of, include_in as include_of};
 ghost use Rattle.wac_resolution_state.specs.Bindings.{values_of};
 ghost use Rattle.wac_resolution_state.specs.Named.{scope_of};
-ghost use Rattle.wac_resolution_paths.specs.Expands.{AllSupplied};
-ghost use Rattle.wac_resolution_paths.specs.Context.{packages_in, context_of};
-ghost use Rattle.wac_resolution_bodies.specs.Lists.{lists_of};
-ghost use Rattle.wac_resolution_bodies.specs.Bodies.{body_of};
+ghost use Rattle.wac_resolution_state.specs.Expands.{AllSupplied};
+ghost use Rattle.wac_resolution_state.specs.Context.{packages_in, context_of};
+ghost use Rattle.wac_resolution_types.specs.Lists.{lists_of};
+ghost use Rattle.wac_resolution_types.specs.Bodies.{body_of};
 ghost use Rattle.wac_resolution_worlds.specs.WorldItems.{AreNamed, IncludeStep, IncludeSteps};
 
 use crate::outer_scope::OuterScope;
+use crate::{Inclusion, entries};
 use wac_ast_uses::WorldInclude;
 use wac_ast_worlds::WorldItem;
-use wac_resolution_bodies::Body;
 use wac_resolution_errors::Error;
-use wac_resolution_includes::{Inclusion, entries};
-use wac_resolution_paths::world_ref;
-use wac_resolution_state::State;
+use wac_resolution_state::{State, world_ref};
+use wac_resolution_types::Body;
 
 /// Takes an include into the world of a name.
 fn include(

@@ -8,17 +8,17 @@ ghost use Rattle.wac_graph.specs.Means.{means, entry_means};
 ghost use Rattle.wac_graph.specs.Origin.{Naming};
 ghost use Rattle.wac_resolution_rules.specs.BrokenWorlds.{InstanceBroken};
 ghost use Rattle.wac_resolution_rules.specs.Errors.{ErrorSays};
-ghost use Rattle.wac_resolution_bodies.specs.Lists.{lists_of};
-ghost use Rattle.wac_resolution_bodies.specs.Bodies.{body_of, IsBody};
-ghost use Rattle.wac_resolution_bodies.specs.Owners.{owner_of};
+ghost use Rattle.wac_resolution_types.specs.Lists.{lists_of};
+ghost use Rattle.wac_resolution_types.specs.Bodies.{body_of, IsBody};
+ghost use Rattle.wac_resolution_types.specs.Owners.{owner_of};
 ghost use Rattle.wac_resolution_worlds.specs.WorldItems.{InstanceStep};
 
 use crate::used_interface::interface_of;
 use wac_graph::{CompositionGraph, InterfaceId, ItemKind};
 use wac_lexer::SourceSpan;
-use wac_resolution_bodies::{Body, Section, check_extern};
 use wac_resolution_errors::Error;
 use wac_resolution_state::State;
+use wac_resolution_types::{Body, Section, check_extern};
 
 /// What a path or an identifier resolves to, its text, and where that is.
 #[derive(Clone, Copy)]

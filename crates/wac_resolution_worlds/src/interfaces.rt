@@ -15,11 +15,11 @@ ghost use Rattle.wac_resolution_rules.specs.Places.{bound_in_interface};
 ghost use Rattle.wac_resolution_rules.specs.Worlds.{HasInterfaceItem};
 ghost use Rattle.wac_resolution_state.specs.Bindings.{values_of, places_of};
 ghost use Rattle.wac_resolution_state.specs.Named.{scope_of};
-ghost use Rattle.wac_resolution_paths.specs.Expands.{AllSupplied};
-ghost use Rattle.wac_resolution_paths.specs.Context.{packages_in, context_of};
-ghost use Rattle.wac_resolution_bodies.specs.Lists.{lists_of};
-ghost use Rattle.wac_resolution_bodies.specs.Bodies.{body_of, IsBody};
-ghost use Rattle.wac_resolution_bodies.specs.Owners.{owner_of};
+ghost use Rattle.wac_resolution_state.specs.Expands.{AllSupplied};
+ghost use Rattle.wac_resolution_state.specs.Context.{packages_in, context_of};
+ghost use Rattle.wac_resolution_types.specs.Lists.{lists_of};
+ghost use Rattle.wac_resolution_types.specs.Bodies.{body_of, IsBody};
+ghost use Rattle.wac_resolution_types.specs.Owners.{owner_of};
 ghost use Rattle.wac_resolution_worlds.specs.Made.{no_lists, FuncExportStep, InterfaceItemStep, InterfaceItemSteps, InterfaceOf, InterfaceMade};
 
 use crate::functions::func_ref;
@@ -28,9 +28,9 @@ use crate::use_statements::use_statement;
 use std::alloc::AllocError;
 use wac_ast_worlds::{InterfaceExport, InterfaceItem};
 use wac_graph::{ExternKind, Interface, InterfaceId, ItemKind};
-use wac_resolution_bodies::{Body, Owner, Section, check_extern};
 use wac_resolution_errors::Error;
 use wac_resolution_state::State;
+use wac_resolution_types::{Body, Owner, Section, check_extern};
 
 /// Takes the export of a function.
 fn interface_export(
@@ -90,7 +90,7 @@ fn interface_item<'a>(
                 owner: *owner,
                 side: ExternKind::Export,
             };
-            wac_resolution_bodies::item(state, body, &section, decl)
+            wac_resolution_types::item(state, body, &section, decl)
         }
     }
 }

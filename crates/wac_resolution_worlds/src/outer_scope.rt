@@ -1,8 +1,7 @@
 //! What surrounds an interface or a world.
 
 use wac_graph::ItemKind;
-use wac_resolution_paths::Context;
-use wac_resolution_state::Names;
+use wac_resolution_state::{Context, Names};
 
 /// What surrounds an interface or a world: the document's context, and the names at root.
 #[derive(Clone, Copy)]

@@ -7,10 +7,10 @@ ghost use Rattle.wac_resolution_rules.specs.BrokenBodies.{UseBroken};
 ghost use Rattle.wac_resolution_rules.specs.Errors.{ErrorSays};
 ghost use Rattle.wac_resolution_state.specs.Bindings.{values_of};
 ghost use Rattle.wac_resolution_state.specs.Named.{scope_of};
-ghost use Rattle.wac_resolution_paths.specs.Expands.{AllSupplied};
-ghost use Rattle.wac_resolution_paths.specs.Context.{packages_in, context_of};
-ghost use Rattle.wac_resolution_bodies.specs.Lists.{lists_of};
-ghost use Rattle.wac_resolution_bodies.specs.Bodies.{body_of, IsBody};
+ghost use Rattle.wac_resolution_state.specs.Expands.{AllSupplied};
+ghost use Rattle.wac_resolution_state.specs.Context.{packages_in, context_of};
+ghost use Rattle.wac_resolution_types.specs.Lists.{lists_of};
+ghost use Rattle.wac_resolution_types.specs.Bodies.{body_of, IsBody};
 ghost use Rattle.wac_resolution_worlds.specs.UseStatements.{IsInterface, IsNoneNamed, UseStatementStep};
 
 use crate::outer_scope::OuterScope;
@@ -19,10 +19,9 @@ use crate::used_item::UsedInterface;
 use crate::used_items::use_items;
 use wac_ast_uses::{Use, UsePath};
 use wac_graph::{ExternKind, InterfaceId};
-use wac_resolution_bodies::Body;
 use wac_resolution_errors::Error;
-use wac_resolution_paths::use_path;
-use wac_resolution_state::State;
+use wac_resolution_state::{State, use_path};
+use wac_resolution_types::Body;
 
 /// The interface that a path or an identifier names.
 fn used_interface(

@@ -11,17 +11,17 @@ ghost use Rattle.wac_graph.specs.Origin.{Naming};
 ghost use Rattle.wac_resolution_rules.specs.Bodies.{used_as as used_by, renamed_from};
 ghost use Rattle.wac_resolution_rules.specs.BrokenBodies.{help_unless, IsNoTypeThere, IsNoUsableType, IsUseConflict};
 ghost use Rattle.wac_resolution_rules.specs.Errors.{ErrorSays};
-ghost use Rattle.wac_resolution_bodies.specs.Lists.{lists_of, kinds_of};
-ghost use Rattle.wac_resolution_bodies.specs.Bodies.{body_of};
+ghost use Rattle.wac_resolution_types.specs.Lists.{lists_of, kinds_of};
+ghost use Rattle.wac_resolution_types.specs.Bodies.{body_of};
 ghost use Rattle.wac_resolution_worlds.specs.Used.{IsThere, IsUsed};
 
 use std::alloc::{AllocError, Global};
 use wac_ast_base::Ident;
 use wac_ast_uses::UseItem;
 use wac_graph::{ExternKind, InterfaceId, ItemKind, Type};
-use wac_resolution_bodies::Body;
 use wac_resolution_errors::Error;
 use wac_resolution_state::State;
+use wac_resolution_types::Body;
 
 /// An interface whose types are used, and the path or identifier that names it.
 #[derive(Clone, Copy)]

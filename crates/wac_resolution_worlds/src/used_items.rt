@@ -10,16 +10,16 @@ ghost use Rattle.wac_graph.specs.Origin.{Naming};
 ghost use Rattle.wac_resolution_rules.specs.Bodies.{UsesItem};
 ghost use Rattle.wac_resolution_rules.specs.BrokenBodies.{UseItemBroken};
 ghost use Rattle.wac_resolution_rules.specs.Errors.{ErrorSays};
-ghost use Rattle.wac_resolution_bodies.specs.Lists.{lists_of};
-ghost use Rattle.wac_resolution_bodies.specs.Bodies.{body_of, IsBody};
+ghost use Rattle.wac_resolution_types.specs.Lists.{lists_of};
+ghost use Rattle.wac_resolution_types.specs.Bodies.{body_of, IsBody};
 ghost use Rattle.wac_resolution_worlds.specs.Used.{UseStep, UseSteps};
 
 use crate::used_item::{UsedInterface, check_use, renamed, used_as, used_kind};
 use wac_ast_uses::UseItem;
 use wac_graph::{ExternKind, UsedType};
-use wac_resolution_bodies::Body;
 use wac_resolution_errors::Error;
 use wac_resolution_state::State;
+use wac_resolution_types::Body;
 
 /// Takes a type from an interface.
 fn use_item<'a>(

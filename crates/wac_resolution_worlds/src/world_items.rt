@@ -12,11 +12,11 @@ ghost use Rattle.wac_resolution_rules.specs.Places.{bound_in_world};
 ghost use Rattle.wac_resolution_rules.specs.Worlds.{HasWorldItem};
 ghost use Rattle.wac_resolution_state.specs.Bindings.{values_of, places_of};
 ghost use Rattle.wac_resolution_state.specs.Named.{scope_of};
-ghost use Rattle.wac_resolution_paths.specs.Expands.{AllSupplied};
-ghost use Rattle.wac_resolution_paths.specs.Context.{packages_in, context_of};
-ghost use Rattle.wac_resolution_bodies.specs.Lists.{lists_of};
-ghost use Rattle.wac_resolution_bodies.specs.Bodies.{body_of, IsBody};
-ghost use Rattle.wac_resolution_bodies.specs.Owners.{owner_of};
+ghost use Rattle.wac_resolution_state.specs.Expands.{AllSupplied};
+ghost use Rattle.wac_resolution_state.specs.Context.{packages_in, context_of};
+ghost use Rattle.wac_resolution_types.specs.Lists.{lists_of};
+ghost use Rattle.wac_resolution_types.specs.Bodies.{body_of, IsBody};
+ghost use Rattle.wac_resolution_types.specs.Owners.{owner_of};
 ghost use Rattle.wac_resolution_worlds.specs.Made.{no_lists};
 ghost use Rattle.wac_resolution_worlds.specs.WorldItems.{WorldItemStep, WorldItemSteps};
 
@@ -25,9 +25,9 @@ use crate::outer_scope::OuterScope;
 use crate::use_statements::use_statement;
 use wac_ast_worlds::WorldItem;
 use wac_graph::ExternKind;
-use wac_resolution_bodies::{Body, Owner, Section};
 use wac_resolution_errors::Error;
 use wac_resolution_state::State;
+use wac_resolution_types::{Body, Owner, Section};
 
 /// Takes an item of a world. Includes come afterwards.
 fn world_item<'a>(
@@ -70,7 +70,7 @@ fn world_item<'a>(
                 owner: *owner,
                 side: ExternKind::Import,
             };
-            wac_resolution_bodies::item(state, body, &section, decl)
+            wac_resolution_types::item(state, body, &section, decl)
         }
     }
 }

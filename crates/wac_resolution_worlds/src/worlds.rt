@@ -8,9 +8,9 @@ ghost use Rattle.wac_resolution_rules.specs.BrokenWorlds.{WorldBroken};
 ghost use Rattle.wac_resolution_rules.specs.Errors.{ErrorSays};
 ghost use Rattle.wac_resolution_state.specs.Bindings.{values_of};
 ghost use Rattle.wac_resolution_state.specs.Named.{scope_of};
-ghost use Rattle.wac_resolution_paths.specs.Expands.{AllSupplied};
-ghost use Rattle.wac_resolution_paths.specs.Context.{packages_in, context_of};
-ghost use Rattle.wac_resolution_bodies.specs.Lists.{lists_of};
+ghost use Rattle.wac_resolution_state.specs.Expands.{AllSupplied};
+ghost use Rattle.wac_resolution_state.specs.Context.{packages_in, context_of};
+ghost use Rattle.wac_resolution_types.specs.Lists.{lists_of};
 ghost use Rattle.wac_resolution_worlds.specs.WorldItems.{AreNamed, WorldOf, WorldMade};
 
 use crate::includes::includes;
@@ -19,9 +19,9 @@ use crate::world_items::world_items;
 use std::alloc::AllocError;
 use wac_ast_worlds::WorldItem;
 use wac_graph::{World, WorldId};
-use wac_resolution_bodies::{Body, Owner};
 use wac_resolution_errors::Error;
 use wac_resolution_state::State;
+use wac_resolution_types::{Body, Owner};
 
 /// Adds a world with the uses, imports and exports of a body.
 fn finish_world(

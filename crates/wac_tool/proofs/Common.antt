@@ -10,4 +10,4 @@ pub use Rattle.wac_lexer.specs.Characters.{refused}
 pub use Rattle.wac_lexer.specs.Items.{items}
 pub use Rattle.wac_lexer.specs.Reading.{left}
 pub use Rattle.wac_lexer.specs.Span.{Span}
-pub use Rattle.wac_resolution_mentions.specs.Noted.{mentions_in}
+pub use Rattle.wac_resolution.specs.Noted.{mentions_in}

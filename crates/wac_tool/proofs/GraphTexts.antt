@@ -13,7 +13,7 @@ use Rattle.wac_resolution_errors.specs.Told.{told}
 use Rattle.wac_resolution_errors.specs.declared.error.Error.{Error}
 use Rattle.wac_resolution_errors.specs.declared.error.Error.TheVariants as errors
 use Rattle.wac_resolution_rules.specs.ResolvedDocument.{FirstFailing, EveryNaming}
-use Rattle.wac_resolution_nodes.specs.Nodes.{composition_of, node_of}
+use Rattle.wac_resolution_state.specs.Nodes.{composition_of, node_of}
 use Rattle.wac_tool_graphs.specs.Lines.{node_line, node_lines, argument_lines, export_lines, graph_lines}
 use Rattle.wac_tool_graphs.specs.Alone.{alone, same_rules}
 use Rattle.wac_tool.specs.Resolving.{IsGraphText, IsGraphOf, HasGraph, IsRejection, IsErrorOf}

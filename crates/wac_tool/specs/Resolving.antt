@@ -13,7 +13,7 @@ use Rattle.wac_resolution_errors.specs.declared.error.Error.{Error}
 use Rattle.wac_resolution_errors.specs.declared.error.Error.TheVariants as errors
 use Rattle.wac_resolution_rules.specs.Composition.{Composition}
 use Rattle.wac_resolution_rules.specs.ResolvedDocument.{Describes, EveryNaming}
-use Rattle.wac_resolution_nodes.specs.Nodes.{composition_of}
+use Rattle.wac_resolution_state.specs.Nodes.{composition_of}
 use Rattle.wac_tool_graphs.specs.Lines.{graph_lines}
 use Rattle.wac_tool_graphs.specs.Alone.{alone, BreaksRule}
 use Rattle.wac_tool.specs.declared.error.RunError.{RunError}

@@ -6,7 +6,7 @@ ghost use Rattle.wac_tool.specs.declared.command.Command.TheVariants as commands
 use crate::error::RunError;
 use crate::refusing::refusal;
 use std::alloc::{AllocError, Global};
-use wac_parser_formatting::format;
+use wac_printer::format;
 
 /// Rejects a source that isn't the text that its own document is printed as. Nothing is written.
 pub(crate) fn check(alloc: Global, source: &str) -> Result<(), RunError>

@@ -2,7 +2,7 @@
 ghost use Rattle.std.specs.Prelude.{◌≡◌, ◌+◌, ◌++◌, IfOk, IfErr, IsUtf8, OnOk, string_bytes};
 ghost use Rattle.wac_ast.specs.Statements.{document_of};
 ghost use Rattle.wac_graph.specs.Package.{key_of};
-ghost use Rattle.wac_resolution_mentions.specs.Noted.{mentions_in};
+ghost use Rattle.wac_resolution.specs.Noted.{mentions_in};
 ghost use Rattle.wac_tool.specs.Running.{Answers, Rejects, Writes, input_failures, output_failures, mentioned_lines, package_line, package_lines};
 ghost use Rattle.wac_tool.specs.declared.command.Command.TheVariants as commands;
 
@@ -14,7 +14,7 @@ use wac_ast::Document;
 use wac_graph::PackageKey;
 use wac_lexer::{Sink, SourceSpan, put_all};
 use wac_printer::Page;
-use wac_resolution_mentions::packages;
+use wac_resolution::packages;
 
 /// Writes a line for each package that the document of a source mentions.
 pub(crate) fn write_packages<S: Sink>(

@@ -10,7 +10,7 @@ use Rattle.wac_graph.specs.Graph.{Parts}
 use Rattle.wac_graph.specs.Means.{means, entry_means}
 use Rattle.wac_graph.specs.Numbers.{numbers}
 use Rattle.wac_graph.specs.Origin.{Naming}
-use Rattle.wac_resolution_nodes.specs.Nodes.{form_in, node_of}
+use Rattle.wac_resolution_state.specs.Nodes.{form_in, node_of}
 use Rattle.wac_tool_graphs.specs.Lines.{form_words, id_words, node_line, node_lines, argument_lines}
 use Rattle.wac_tool_graphs.specs.Puts.{Began, Puts}
 use Rattle.wac_tool_graphs.specs.declared.lines.OutputFailed.{OutputFailed}

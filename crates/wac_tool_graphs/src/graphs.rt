@@ -5,7 +5,7 @@ ghost use Rattle.wac_graph.specs.Node.{Node, arguments_in};
 ghost use Rattle.wac_graph.specs.Origin.{Naming};
 ghost use Rattle.wac_graph.specs.Package.{key_of};
 ghost use Rattle.wac_resolution_rules.specs.Composition.{aliased, instantiated};
-ghost use Rattle.wac_resolution_nodes.specs.Nodes.{composition_of, form_in, node_of};
+ghost use Rattle.wac_resolution_state.specs.Nodes.{composition_of, form_in, node_of};
 ghost use Rattle.wac_tool_graphs.specs.Lines.{form_words, id_words, node_line, node_lines, argument_lines, graph_lines};
 ghost use Rattle.wac_tool_graphs.specs.Puts.{Puts};
 

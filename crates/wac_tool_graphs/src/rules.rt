@@ -1,7 +1,7 @@
 //! The rules by which `wac resolve` tests.
 
+use crate::same;
 use std::alloc::Global;
-use wac_graph_sameness::same;
 use wac_graph_types::{ItemKind, Reason, Rules, Types};
 
 /// Rules under which a kind fits one that means the same, and no other; each name may be used.

@@ -4,11 +4,10 @@ use std::alloc::{AllocError, Global};
 use std::io::Write;
 use std::test::Fail;
 use wac_cli::check_paths;
-use wac_cli_components::{PackageForm, show_package};
 use wac_cli_console::{Console, Report, Status};
 use wac_cli_packages::{
-    Form, Given, check_target, check_with_packages, list_packages, show_graph,
-    show_graph_with_packages,
+    Form, Given, PackageForm, check_target, check_with_packages, list_packages, show_graph,
+    show_graph_with_packages, show_package,
 };
 use wac_files::MemoryFiles;
 

@@ -1,4 +1,4 @@
-//! Tests of `wac_component_rules` and `wac_component_mismatch`: kinds that fit and kinds that don't, in tables built by
+//! Tests of `wac_component_rules` and `wac_component_rules`: kinds that fit and kinds that don't, in tables built by
 //! hand; tables made by a seeded generator, of whose pairs the two say what a plain definition says, computed kind by
 //! kind; and a table of pairs that documents declare, each case and each refusal with its path.
 #![tactic(auto)]

@@ -8,8 +8,7 @@ use std::alloc::{AllocError, Global};
 use std::process::Abort;
 use std::test::Fail;
 use wac_ast::Document;
-use wac_component_mismatch::mismatch;
-use wac_component_rules::ComponentRules;
+use wac_component_rules::{ComponentRules, mismatch};
 use wac_graph::{CompositionGraph, ItemKind, NodeId, Rules};
 use wac_resolution::AstResolver;
 

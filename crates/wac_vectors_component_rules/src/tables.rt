@@ -7,8 +7,7 @@ use crate::choices::Choices;
 use crate::definition::{Kind, Part, Shape};
 use indexmap::IndexMap;
 use std::alloc::{AllocError, Global};
-use wac_component_mismatch::mismatch;
-use wac_component_rules::ComponentRules;
+use wac_component_rules::{ComponentRules, mismatch};
 use wac_graph_types::names::find;
 use wac_graph_types::{
     DefinedType, FuncResults, FuncType, Interface, ItemKind, Package, PackageError, PrimitiveType,

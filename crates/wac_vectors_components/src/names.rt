@@ -4,8 +4,9 @@ use crate::small::{IDENTITIES, decoded_again};
 use std::alloc::{AllocError, Global};
 use std::test::Fail;
 use wac_components::Decoded;
-use wac_components_names::{Names, Reference, reference_of};
-use wac_components_types::{InstanceId, Item, NameId, Owner, Table, TypeId};
+use wac_components_types::{
+    InstanceId, Item, NameId, Names, Owner, Reference, Table, TypeId, reference_of,
+};
 use wac_graph_types::ExternKind;
 
 /// The instance that a component imports at a place.

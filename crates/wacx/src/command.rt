@@ -2,9 +2,8 @@
 use clap::{Arg, ArgAction, ArgMatches, Command, Error};
 use std::alloc::{AllocError, Global};
 use wac_cli::{FormatOptions, LineEnds};
-use wac_cli_components::{PackageForm, is_package_key};
 use wac_cli_console::{Action, Report};
-use wac_cli_packages::Form;
+use wac_cli_packages::{Form, PackageForm, is_package_key};
 use wac_comments::Indent;
 
 /// The version of the program.

@@ -6,10 +6,10 @@ use std::io::{IsTerminal, Stderr, Stdout};
 use std::process::ExitCode;
 use std::{env, process};
 use wac_cli::{check_input, check_paths, format_input, format_paths};
-use wac_cli_components::show_package;
 use wac_cli_console::{Console, Report, Status};
 use wac_cli_packages::{
     Given, check_target, check_with_packages, list_packages, show_graph, show_graph_with_packages,
+    show_package,
 };
 use wac_files::Disk;
 

@@ -1,7 +1,7 @@
 use Rattle.wac_json.proofs.Common.{◌∙◌, ◌≤◌, ap, codes, length, map, rules, sym, take_all, array, argument_of, primary_expr_of, variant, arguments_items}
 use Rattle.wac_json_forms.specs.Forms.{argument_json, named_argument_json, primary_expr_json}
 use Rattle.serde_json.specs.View.{items_of}
-use Rattle.wac_ast_expressions.proofs.ExprViews.{new_is}
+use Rattle.wac_ast_statements.proofs.ExprViews.{new_is}
 use Rattle.wac_json.proofs.Forms.{formed_as, items_are}
 use Rattle.wac_json.proofs.expr.+expressions.Goals as goal
 

@@ -1,8 +1,8 @@
 use Rattle.wac_json_text.proofs.Common.{◌≡◌, ◌≤◌, [], Err, ap, arith, codes, length, refl, rules, sym, flat_map, ident_of, argument_name_of, argument_of, expr_of, new_expr_of, postfix_expr_of, size-InstantiationArgument, most_rest, first_goes, first_stops, goes_at, none_is, starts, stops_at, first, last, printed_at, variant, arguments_items, items_of-map}
 use Rattle.wac_json_forms.specs.Forms.{argument_json, expr_json, ident_json, list_json, postfix_expr_json, primary_expr_json, span_json}
 use Rattle.json.specs.Print.{escape_byte}
-use Rattle.wac_ast_expressions.specs.declared.expr.NestedExpr.{out-NestedExpr}
-use Rattle.wac_ast_expressions.proofs.ExprViews.{nested_out, new_is}
+use Rattle.wac_ast_statements.specs.declared.expr.NestedExpr.{out-NestedExpr}
+use Rattle.wac_ast_statements.proofs.ExprViews.{nested_out, new_is}
 use Rattle.wac_printer_pieces.proofs.Progress as list
 use Rattle.wac_json_text.specs.Contents.{named_json, nested_json}
 use Rattle.wac_json_text.specs.Pieces.{behind_comma, joined_pieces, pieces}

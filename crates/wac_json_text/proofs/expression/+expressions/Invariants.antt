@@ -1,8 +1,8 @@
 use Rattle.wac_json_text.proofs.Common.{◌+◌, ◌*◌, argument_of, size-InstantiationArgument, size-PrimaryExpr, IsSoFar}
 use Rattle.wac_json_forms.specs.Forms.{argument_json}
 use denote.Param.Weighed.{most}
-use Rattle.wac_ast_expressions.specs.declared.expr.Expr.{size-Expr}
-use Rattle.wac_ast_expressions.specs.declared.expr.NewExpr.{size-NewExpr}
+use Rattle.wac_ast_statements.specs.declared.expr.Expr.{size-Expr}
+use Rattle.wac_ast_statements.specs.declared.expr.NewExpr.{size-NewExpr}
 use Rattle.wac_json_text.specs.Pieces.{behind_comma, pieces}
 use Rattle.wac_json_text.proofs.expression.+expressions.Given as goal
 

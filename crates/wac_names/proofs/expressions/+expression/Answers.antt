@@ -1,6 +1,6 @@
 use Rattle.std.proofs.Common.{ap, sym, subst, ◌∙◌}
 use Rattle.wac_ast_grammar.specs.Tree.{PrimaryExpr}
-use Rattle.wac_ast_expressions.specs.Expressions.{argument_of, primary_expr_of}
+use Rattle.wac_ast_statements.specs.Expressions.{argument_of, primary_expr_of}
 use Rattle.wac_names.specs.Steps.{argument_steps, primary_steps}
 use Rattle.wac_names.specs.Traced.{Takes}
 use Rattle.wac_names.proofs.Arguments.{in_a_row, new_is}

@@ -1,5 +1,5 @@
 use Rattle.std.proofs.Common.{take, map, flat_map}
-use Rattle.wac_ast_expressions.specs.Expressions.{argument_of}
+use Rattle.wac_ast_statements.specs.Expressions.{argument_of}
 use Rattle.wac_names.specs.Steps.{argument_steps}
 use Rattle.wac_names.specs.Traced.{Takes}
 use Rattle.wac_names.proofs.expressions.+expression.Given as goal

@@ -1,4 +1,5 @@
-use Rattle.wac_resolution.proofs.Common.{◌∙◌, ap, rules, key_of, mentions_in, is_mentioned}
+use Rattle.wac_resolution.proofs.Common.{◌∙◌, ap, rules, key_of, is_mentioned}
+use Rattle.wac_resolution.specs.Noted.{mentions_in}
 use Rattle.indexmap.proofs.CallerLemmas.{filter-RetainsPairs}
 use Rattle.wac_resolution.specs.Resolved.{by_key}
 use Rattle.wac_resolution.proofs.Kept.{by_key_kept}

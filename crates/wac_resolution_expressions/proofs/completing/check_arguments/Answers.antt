@@ -1,5 +1,5 @@
 use Rattle.wac_resolution_expressions.proofs.Common.{List, map, subst, IfErr, IfErr-weaker, err_from_is_err_and, by_name, arguments_from, package_name_of, argument_of, Reports, told, rules_of, numbers_of, reports}
-use Rattle.wac_ast_expressions.specs.declared.expr.InstantiationArgument.{InstantiationArgument}
+use Rattle.wac_ast_statements.specs.declared.expr.InstantiationArgument.{InstantiationArgument}
 use Rattle.wac_resolution_expressions.specs.Arguments.{given_nodes}
 use Rattle.wac_resolution_expressions.specs.Incomplete.{IsIncomplete}
 use Rattle.wac_resolution_expressions.specs.Completing.{AreWrong}

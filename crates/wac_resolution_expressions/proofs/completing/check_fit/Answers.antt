@@ -1,5 +1,5 @@
 use Rattle.wac_resolution_expressions.proofs.Common.{map, inr, ◌≡◌, List, subst, by_name, arguments_from, package_name_of, argument_of, Naming, look_up, told, argument_places, rules_of, numbers_of, composed}
-use Rattle.wac_ast_expressions.specs.declared.expr.InstantiationArgument.{InstantiationArgument}
+use Rattle.wac_ast_statements.specs.declared.expr.InstantiationArgument.{InstantiationArgument}
 use Rattle.wac_resolution_expressions.specs.Spreads.{imports_at}
 use Rattle.wac_resolution_expressions.proofs.Checking.{misfit_wrong}
 use Rattle.wac_resolution_expressions.proofs.completing.check_fit.Goals as goal

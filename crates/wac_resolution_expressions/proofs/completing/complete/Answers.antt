@@ -1,5 +1,5 @@
 use Rattle.wac_resolution_expressions.proofs.Common.{List, map, subst, err_from_is_err_and, by_name, arguments_from, package_name_of, argument_of, Fails, Naming, Spreads, spreads_of, SpreadBroken, told, rules_of, numbers_of, reports, agrees_nodes, slice_get_within}
-use Rattle.wac_ast_expressions.specs.declared.expr.InstantiationArgument.{InstantiationArgument}
+use Rattle.wac_ast_statements.specs.declared.expr.InstantiationArgument.{InstantiationArgument}
 use Rattle.wac_resolution_expressions.specs.Spreads.{giving_of, imports_at}
 use Rattle.wac_resolution_expressions.proofs.Checking.{SpreadsGive, somewhere, wrong_after, spreads_fail, loaded_nodes, imports_named, completes}
 use Rattle.wac_resolution_expressions.proofs.completing.complete.Goals as goal

@@ -1,10 +1,10 @@
 use Rattle.wac_resolution_expressions.proofs.Common.{◌≡◌, ◌∙◌, ◌-◌, suc, List, map, sym, ap, subst, length, arith, rules, inr, IfOk, IfErr, OnOk, nat_eq, err_from_is_err_and, IfOk-weaker, IfErr-weaker, on_ok_weaker, Span, PrimaryExpr, arguments_from, by_name, ident_of, package_name_of, argument_of, argument_name_of, expr_of, new_expr_of, primary_expr_of, postfix_expr_of, size_is-NewExpr, Reports, told, rules_of, reports, if_reports, AccessSteps, numbers_of, NodeIs, packages_in}
 use denote.Param.Weighed.{most}
 use Rattle.wac_ast_grammar.specs.Tree.{InstantiationArgument}
-use Rattle.wac_ast_expressions.specs.declared.expr.InstantiationArgument.{InstantiationArgument as CodeArgument, size-InstantiationArgument}
-use Rattle.wac_ast_expressions.specs.declared.expr.NestedExpr.{out-NestedExpr}
-use Rattle.wac_ast_expressions.specs.declared.expr.PostfixExpr.{PostfixExpr as CodePostfixExpr}
-use Rattle.wac_ast_expressions.proofs.ExprViews.{nested_out, new_is}
+use Rattle.wac_ast_statements.specs.declared.expr.InstantiationArgument.{InstantiationArgument as CodeArgument, size-InstantiationArgument}
+use Rattle.wac_ast_statements.specs.declared.expr.NestedExpr.{out-NestedExpr}
+use Rattle.wac_ast_statements.specs.declared.expr.PostfixExpr.{PostfixExpr as CodePostfixExpr}
+use Rattle.wac_ast_statements.proofs.ExprViews.{nested_out, new_is}
 use Rattle.wac_resolution_rules.specs.BrokenTypes.{IsUndefined}
 use Rattle.wac_resolution_state.proofs.Sizes.{most_at}
 use Rattle.wac_resolution_expressions.specs.Spreads.{GivenThere}

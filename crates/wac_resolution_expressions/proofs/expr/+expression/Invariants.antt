@@ -1,7 +1,7 @@
 use Rattle.wac_resolution_expressions.proofs.Common.{◌+◌, ◌*◌, by_name, size-InstantiationArgument, size-NewExpr, rules_of, numbers_of}
 use denote.Param.Weighed.{most}
-use Rattle.wac_ast_expressions.specs.declared.expr.Expr.{size-Expr}
-use Rattle.wac_ast_expressions.specs.declared.expr.PrimaryExpr.{size-PrimaryExpr}
+use Rattle.wac_ast_statements.specs.declared.expr.Expr.{size-Expr}
+use Rattle.wac_ast_statements.specs.declared.expr.PrimaryExpr.{size-PrimaryExpr}
 use Rattle.wac_resolution_expressions.proofs.Standing.{InLoop}
 use Rattle.wac_resolution_expressions.proofs.expr.+expression.Given as goal
 

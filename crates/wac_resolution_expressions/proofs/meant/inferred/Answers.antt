@@ -1,5 +1,5 @@
 use Rattle.wac_resolution_expressions.proofs.Common.{◌∙◌, ℕ, List, Option, sym, ap, unwrap_or, by_name, items_mean, find_name}
-use Rattle.wac_resolution_nodes.proofs.Found.{found_meant}
+use Rattle.wac_resolution_state.proofs.Found.{found_meant}
 use Rattle.wac_resolution_expressions.proofs.meant.inferred.Goals as goal
 
 pub returns-in-None : goal.returns-in-None

@@ -1,5 +1,5 @@
 use Rattle.wac_resolution_expressions.proofs.Common.{◌∙◌, ap, argument_of, argument_place, composed}
-use Rattle.wac_ast_expressions.specs.declared.expr.InstantiationArgument.{InstantiationArgument}
+use Rattle.wac_ast_statements.specs.declared.expr.InstantiationArgument.{InstantiationArgument}
 use Rattle.wac_resolution_expressions.specs.Spreads.{imports_at}
 use Rattle.wac_resolution_expressions.proofs.own_place.own_place.Goals as goal
 

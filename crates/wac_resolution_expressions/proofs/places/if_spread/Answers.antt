@@ -1,5 +1,5 @@
 use Rattle.wac_resolution_expressions.proofs.Common.{◌∙◌, ap, append-nil, look_up, ident_of, argument_of, spread_places, composed}
-use Rattle.wac_ast_expressions.specs.declared.expr.InstantiationArgument.{InstantiationArgument}
+use Rattle.wac_ast_statements.specs.declared.expr.InstantiationArgument.{InstantiationArgument}
 use Rattle.wac_resolution_expressions.proofs.SpreadPlaces.{place_of}
 use Rattle.wac_resolution_expressions.proofs.places.if_spread.Goals as goal
 

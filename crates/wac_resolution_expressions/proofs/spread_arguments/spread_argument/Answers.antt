@@ -1,5 +1,5 @@
 use Rattle.wac_resolution_expressions.proofs.Common.{ap, err_from_is_err_and, by_name, ident_of, argument_of, told, spread_of, numbers_of, reports}
-use Rattle.wac_ast_expressions.specs.declared.expr.InstantiationArgument.{InstantiationArgument}
+use Rattle.wac_ast_statements.specs.declared.expr.InstantiationArgument.{InstantiationArgument}
 use Rattle.wac_resolution_expressions.proofs.SpreadSteps.{gave_none, gave_one, breaks_one, not_spread}
 use Rattle.wac_resolution_expressions.proofs.spread_arguments.spread_argument.Goals as goal
 

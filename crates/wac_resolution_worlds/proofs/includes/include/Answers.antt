@@ -1,4 +1,5 @@
-use Rattle.wac_resolution_worlds.proofs.Common.{List, [], inl, map, refl, subst, err_from_is_err_and, by_name, Fails, world_include_item_of, world_include_of, told, IsSecondEntry, HasEntry, values_of, lists_of, AreAll, reports}
+use Rattle.wac_resolution_worlds.proofs.Common.{List, [], inl, map, refl, subst, err_from_is_err_and, by_name, Fails, world_include_item_of, world_include_of, told, IsSecondEntry, HasEntry, values_of, lists_of, reports}
+use Rattle.wac_resolution_worlds.specs.Entries.{AreAll}
 use Rattle.wac_ast_uses.specs.declared.includes.WorldIncludeItem.{WorldIncludeItem}
 use Rattle.wac_resolution_worlds.proofs.Including.{include_goes, world_breaks, taking_breaks}
 use Rattle.wac_resolution_worlds.proofs.includes.include.Goals as goal

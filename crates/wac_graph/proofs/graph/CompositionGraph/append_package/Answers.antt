@@ -1,4 +1,5 @@
-use Rattle.wac_graph.proofs.Common.{◌≡◌, ◌∙◌, None, List, [], ◌∷◌, ◌++◌, length, sym, ap, subst, Entry, KeepsMeanings, IsGrown, IsGrownBy}
+use Rattle.wac_graph.proofs.Common.{◌≡◌, ◌∙◌, None, List, [], ◌∷◌, ◌++◌, length, sym, ap, subst, Entry, KeepsMeanings}
+use Rattle.wac_graph.specs.Copied.{IsGrown, IsGrownBy}
 use Rattle.wac_graph.specs.Graph.{Parts, with_package}
 use Rattle.wac_graph.specs.Sound.{IsSound}
 use Rattle.wac_graph.specs.Package.{Key, HeldPackage, IsHeld, key_of, moved_package, package_keyed}

@@ -1,5 +1,6 @@
-use Rattle.wac_graph.proofs.Common.{◌≡◌, ◌<◌, length, ap, subst, sym, arith, WorldId, InterfaceId, ItemsFit}
-use Rattle.wac_graph_copies.proofs.Fitting.{items_fit}
+use Rattle.wac_graph.proofs.Common.{◌≡◌, ◌<◌, length, ap, subst, sym, arith, WorldId, InterfaceId}
+use Rattle.wac_graph.specs.Moved.{ItemsFit}
+use Rattle.wac_graph.proofs.Fitting.{items_fit}
 use Rattle.wac_graph.proofs.packages.PackageCopy.moved.Goals as goal
 
 pub copy_items-requires : goal.copy_items-requires

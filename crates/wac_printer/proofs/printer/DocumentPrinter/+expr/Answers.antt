@@ -3,7 +3,7 @@ use Rattle.wac_printer.specs.Sliced.{printable}
 use Rattle.wac_printer_layout.specs.Bare.{bare}
 use Rattle.wac_printer.proofs.Common.{arith, rules, ap, refl, sym, subst, map, ◌∙◌, ◌≡◌, ◌≤◌, ◌<◌, ◌++◌, ◌∷◌, [], codes, length, true, false, Err, flat_map, arguments_from, argument_of, expr_of, primary_expr_of, postfix_expr_of, size-InstantiationArgument, size-PrimaryExpr, out-NestedExpr, new_is, token, line, deeper, space, postfix_expr_layout, ending_layout, Prints, part_at, starts, goes_at, stops_at, ends, first_stops, first_goes, none_is, deeper_part, fail, fails, parts, piece, printed_as, printed_at, there, slice}
 use Rattle.wac_printer_layout.specs.ExpressionLayout.{argument_layout, arguments_layout, expr_layout, primary_expr_layout}
-use Rattle.wac_ast_expressions.specs.declared.expr.InstantiationArgument.TheViews.{sized-New}
+use Rattle.wac_ast_statements.specs.declared.expr.InstantiationArgument.TheViews.{sized-New}
 use Rattle.wac_printer.specs.Arguments.{braces_layout}
 use Rattle.wac_printer.proofs.Arguments.{bared, its_line, arguments_lines, no_arguments, braces_none, braces_lone, braces_lines, ending_bare, front_sliced, last_sliced, most_front, most_last, named_is, nested_layout}
 use Rattle.wac_printer.proofs.PartsOf.{no_items}

@@ -1,7 +1,7 @@
 use Rattle.wac_printer.proofs.Common.{◌+◌, ◌*◌, false, size-InstantiationArgument, size-PrimaryExpr, IsSoFar}
 use denote.Param.Weighed.{most}
-use Rattle.wac_ast_expressions.specs.declared.expr.Expr.{size-Expr}
-use Rattle.wac_ast_expressions.specs.declared.expr.NewExpr.{size-NewExpr}
+use Rattle.wac_ast_statements.specs.declared.expr.Expr.{size-Expr}
+use Rattle.wac_ast_statements.specs.declared.expr.NewExpr.{size-NewExpr}
 use Rattle.wac_printer.proofs.Arguments.{its_line}
 use Rattle.wac_printer.proofs.printer.DocumentPrinter.+expr.Given as goal
 

@@ -1,6 +1,5 @@
 use Rattle.wac_printer.proofs.Common.{◌≡◌, rules, Err, [], ◌∷◌, ◌++◌, codes, flat_map, token, space, first_stops, first_goes, none_is, others_sliced}
-use Rattle.wac_printer.proofs.PartsOf.{no_items}
-use Rattle.wac_printer.proofs.PartsOf.{joined-none, joined-some, All-rest}
+use Rattle.wac_printer.proofs.PartsOf.{no_items, joined-none, joined-some, All-rest}
 use Rattle.wac_printer.proofs.printer.DocumentPrinter.joined.Goals as goal
 
 pub returns-in_err-print-in-Some : goal.returns-in_err-print-in-Some

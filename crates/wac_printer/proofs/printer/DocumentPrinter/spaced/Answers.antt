@@ -1,6 +1,5 @@
 use Rattle.wac_printer.proofs.Common.{◌≡◌, rules, Err, [], ◌∷◌, ◌++◌, flat_map, newline, first_stops, first_goes, none_is, others_sliced}
-use Rattle.wac_printer.proofs.PartsOf.{no_items}
-use Rattle.wac_printer.proofs.PartsOf.{spaced-none, spaced-some, All-rest}
+use Rattle.wac_printer.proofs.PartsOf.{no_items, spaced-none, spaced-some, All-rest}
 use Rattle.wac_printer.proofs.printer.DocumentPrinter.spaced.Goals as goal
 
 pub returns-in_err-ended-in-Some : goal.returns-in_err-ended-in-Some

@@ -1,4 +1,6 @@
-use Rattle.wac_resolution.proofs.Common.{IfOk, subst, document_of, mentions_in, AreFirst, mentions}
+use Rattle.wac_resolution.proofs.Common.{IfOk, subst, document_of, mentions}
+use Rattle.wac_resolution.specs.Noted.{mentions_in}
+use Rattle.wac_resolution.specs.Packages.{AreFirst}
 use Rattle.wac_ast.specs.declared.document.Document.{Document}
 use Rattle.wac_resolution.proofs.resolver.AstResolver.first_mentions.Goals as goal
 

@@ -1,5 +1,5 @@
 use Rattle.wac_resolution.proofs.Common.{◌∙◌, refl}
-use Rattle.wac_resolution_mentions.proofs.Noting.{has_key}
+use Rattle.wac_resolution.proofs.Noting.{has_key}
 use Rattle.wac_resolution.proofs.keeping.fn.keep_mentioned.retain.Goals as goal
 
 pub returns : goal.returns

@@ -1,4 +1,0 @@
-pub mod Common
-pub mod Spans
-pub mod ArgumentParts
-pub mod ExprViews

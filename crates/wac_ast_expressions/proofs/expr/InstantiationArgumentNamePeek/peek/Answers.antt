@@ -1,5 +1,0 @@
-use Rattle.wac_ast_expressions.proofs.Common.{refl, peeks_on}
-use Rattle.wac_ast_expressions.proofs.expr.InstantiationArgumentNamePeek.peek.Goals as goal
-
-pub returns-else-peek : goal.returns-else-peek
-returns-else-peek c = peeks_on c.peek.ensures c.if-peek.false c.peek-else-peek.ensures refl refl

@@ -1,5 +1,0 @@
-use Rattle.wac_component_rules.specs.Found.{AllFit}
-use Rattle.wac_component_mismatch.proofs.finding.located.Given as goal
-
-abbrev pub invariant-loop : goal.invariant-loop
-invariant-loop l = AllFit l.entries l.found

@@ -1,6 +1,0 @@
-use Rattle.wac_component_rules.specs.Parts.{slot_of}
-use Rattle.wac_component_mismatch.proofs.Slots.{RestOfParts}
-use Rattle.wac_component_mismatch.proofs.places.value_in.Given as goal
-
-abbrev pub invariant-loop-at : goal.invariant-loop-at
-invariant-loop-at l = RestOfParts (slot_of l.slot) l.entry l.at

@@ -1,0 +1,8 @@
+use Rattle.wac_graph.proofs.Common.{by_name}
+use Rattle.wac_graph.specs.Moved.{moved_child, ChildFits}
+use Rattle.wac_graph.proofs.Copying.{Copying}
+use Rattle.wac_graph.proofs.Views.{value_child}
+use Rattle.wac_graph.proofs.copy.copy_values.Given as goal
+
+abbrev pub invariant-loop-name : goal.invariant-loop-name
+invariant-loop-name l = Copying value_child (moved_child l.n) (ChildFits l.n) (by_name l.from.entries) (by_name l.copy.entries) (by_name l.name-iterator)

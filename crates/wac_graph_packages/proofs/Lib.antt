@@ -1,5 +1,0 @@
-pub mod Common
-mod Assembling
-mod Choosing
-mod Defining
-mod Unmoved

@@ -1,5 +1,0 @@
-pub mod Common
-pub mod Agreeing
-pub mod Forms
-pub mod Levels
-pub mod Reaching

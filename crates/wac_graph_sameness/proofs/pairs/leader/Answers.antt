@@ -1,6 +1,0 @@
-use Rattle.wac_graph_sameness.proofs.Common.{◌∙◌}
-use Rattle.wac_graph_sameness.proofs.Agreeing.{if_led}
-use Rattle.wac_graph_sameness.proofs.pairs.leader.Goals as goal
-
-pub returns : goal.returns
-returns c = if_led c.args.leaders.now.entries c.args.entry c.copied.result (c.copied.ensures ∙ c.get.ensures.value)

@@ -1,6 +1,0 @@
-use Rattle.wac_graph_sameness.proofs.Common.{ℕ, ◌≡◌, Meaning}
-use Rattle.wac_graph_sameness.specs.Pairs.{Agree}
-use Rattle.wac_graph_sameness.proofs.pairs.root.Given as goal
-
-abbrev pub invariant-loop : goal.invariant-loop
-invariant-loop l = (means : ℕ → Meaning) → Agree means l.initial.leaders.entries → Agree means l.leaders.entries × (means l.entry ≡ means l.at)

@@ -1,0 +1,94 @@
+//! What statements mention.
+ghost use Rattle.std.specs.Prelude.{OnOk, map, flat_map, option_map};
+ghost use Rattle.wac_ast.specs.Statements.{statement_of, type_statement_of};
+ghost use Rattle.wac_ast_base.specs.Names.{package_path_of};
+ghost use Rattle.wac_ast_worlds.specs.Worlds.{import_type_of};
+ghost use Rattle.wac_resolution_rules.specs.Mentions.{import_type_mentions, statement_mentions, target_mentions, type_mentions};
+ghost use Rattle.wac_resolution.specs.Noted.{Notes};
+
+use crate::mentions::Mentions;
+use crate::mentions_in_expressions::expression;
+use crate::mentions_in_interfaces::interface_items;
+use crate::mentions_in_worlds::world;
+use std::alloc::AllocError;
+use wac_ast::internals::Statements;
+use wac_ast::{Statement, TypeStatement};
+use wac_ast_base::PackagePath;
+use wac_ast_worlds::ImportType;
+
+/// Notes what the target mentions, if there is one.
+pub(crate) fn target(
+    mentions: &mut Mentions<'_>,
+    targets: &Option<PackagePath<'_>>,
+) -> Result<(), AllocError>
+    ensures { OnOk result (Notes mentions.old mentions.new
+        (target_mentions mentions.old.own (option_map package_path_of targets.now))) }
+{
+    match targets {
+        Some(path) => mentions.path(path),
+        None => Ok(()),
+    }
+}
+
+/// Notes what the type of an import mentions.
+fn import_type(mentions: &mut Mentions<'_>, ty: &ImportType<'_>) -> Result<(), AllocError>
+    ensures { OnOk result (Notes mentions.old mentions.new
+        (import_type_mentions mentions.old.own (import_type_of ty.now))) }
+{
+    match ty {
+        ImportType::Package(path) => mentions.path(path),
+        ImportType::Interface(interface) => interface_items(mentions, &interface.items),
+        ImportType::Func(_) | ImportType::Ident(_) => Ok(()),
+    }
+}
+
+/// Notes what a declaration mentions.
+fn type_statement(
+    mentions: &mut Mentions<'_>,
+    declaration: &TypeStatement<'_>,
+) -> Result<(), AllocError>
+    ensures { OnOk result (Notes mentions.old mentions.new
+        (type_mentions mentions.old.own (type_statement_of declaration.now))) }
+{
+    match declaration {
+        TypeStatement::Interface(interface) => interface_items(mentions, &interface.items),
+        TypeStatement::World(declared) => world(declared, mentions),
+        TypeStatement::Ty(_) => Ok(()),
+    }
+}
+
+/// Notes what a statement mentions.
+fn statement(mentions: &mut Mentions<'_>, statement: &Statement<'_>) -> Result<(), AllocError>
+    ensures { OnOk result (Notes mentions.old mentions.new
+        (statement_mentions mentions.old.own (statement_of statement.now))) }
+{
+    match statement {
+        Statement::Import(import) => import_type(mentions, &import.ty),
+        Statement::Ty(declaration) => type_statement(mentions, declaration),
+        Statement::Let(binding) => expression(mentions, &binding.expr),
+        Statement::Export(export) => expression(mentions, &export.expr),
+    }
+}
+
+/// Notes what statements mention.
+fn statements(mentions: &mut Mentions<'_>, statements: &[Statement<'_>]) -> Result<(), AllocError>
+    ensures { OnOk result (Notes mentions.old mentions.new
+        (flat_map (statement_mentions mentions.old.own) (map statement_of statements.now))) }
+{
+    for next in statements {
+        statement(mentions, next)?;
+    }
+    Ok(())
+}
+
+/// Notes what lent statements mention.
+pub(crate) fn all_statements(
+    mentions: &mut Mentions<'_>,
+    all: Statements<'_, '_>,
+) -> Result<(), AllocError>
+    ensures { OnOk result (Notes mentions.old mentions.new
+        (flat_map (statement_mentions mentions.old.own) (map statement_of all.entry))) }
+{
+    let all = all.all;
+    statements(mentions, all)
+}

@@ -1,3 +1,0 @@
-pub mod Statements
-pub mod Defined
-pub mod Imports

@@ -1,6 +1,0 @@
-pub mod Common
-pub mod Found
-pub mod Lists
-pub mod Going
-pub mod Methods
-pub mod Declared

@@ -1,5 +1,0 @@
-use Rattle.wac_resolution_bodies.proofs.Found.{value_fresh}
-use Rattle.wac_resolution_bodies.proofs.body.Body.bind.Goals as goal
-
-pub bind-requires : goal.bind-requires
-bind-requires c = value_fresh c.args.id.now.string.now c.args.self.now.names c.requires.bound

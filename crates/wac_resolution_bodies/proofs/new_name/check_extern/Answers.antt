@@ -1,8 +1,0 @@
-use Rattle.wac_resolution_bodies.proofs.Common.{inr, sym, means}
-use Rattle.wac_resolution_bodies.specs.Lists.{lists_of}
-use Rattle.wac_resolution_bodies.proofs.Lists.{extern_stands}
-use Rattle.wac_resolution_bodies.proofs.new_name.check_extern.Goals as goal
-
-pub returns-in_ok-conflict-in-Some-clause-err : goal.returns-in_ok-conflict-in-Some-clause-err
-returns-in_ok-conflict-in-Some-clause-err c = inr (λ naming g.
-    (means naming g c.in-Some.field-0, extern_stands naming g c.args.section.now.side (lists_of c.args.body.now) c.args.name.now c.in-Some.field-0 (sym c.in-Some.ensures), c.in_ok-conflict-in-Some.ensures))

@@ -1,6 +1,0 @@
-use Rattle.wac_resolution_externs.proofs.Common.{map, string_bytes, by_name}
-use Rattle.wac_resolution_externs.proofs.Spreading.{Gathering}
-use Rattle.wac_resolution_externs.proofs.spread.unexported_names.Given as goal
-
-abbrev pub invariant-loop-name : goal.invariant-loop-name
-invariant-loop-name l = Gathering l.graph.exports (by_name l.all.entries) (by_name l.name-iterator) (map string_bytes l.names.items)

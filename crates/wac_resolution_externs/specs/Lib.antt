@@ -1,3 +1,0 @@
-pub mod Externs
-pub mod Exports
-pub mod Spreads

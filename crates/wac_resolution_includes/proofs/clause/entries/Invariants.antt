@@ -1,6 +1,0 @@
-use Rattle.wac_resolution_includes.proofs.Common.{by_name}
-use Rattle.wac_resolution_includes.proofs.Read.{AreRead}
-use Rattle.wac_resolution_includes.proofs.clause.entries.Given as goal
-
-abbrev pub invariant-loop-item : goal.invariant-loop-item
-invariant-loop-item l = AreRead l.items l.item-index (by_name l.all.entries)

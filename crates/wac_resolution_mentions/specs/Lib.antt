@@ -1,4 +1,0 @@
-pub mod FirstMentions
-pub mod Noted
-pub mod Packages
-pub mod Ascending

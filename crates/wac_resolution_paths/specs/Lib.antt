@@ -1,3 +1,0 @@
-pub mod Expands
-pub mod Context
-pub mod Segments

@@ -1,0 +1,34 @@
+-- Accesses to the exports of instances.
+use Rattle.std.specs.Prelude.{◌≡◌, ◌<◌, ℕ, List, length}
+use Rattle.wac_graph_types.specs.declared.kind.ItemKind.{ItemKind}
+use Rattle.wac_graph_types.specs.Scope.{Named}
+use Rattle.wac_graph_types.specs.Steps.{Steps}
+use Rattle.wac_ast_grammar.specs.Tree.{PostfixExpr}
+use Rattle.wac_graph.specs.Graph.{Parts}
+use Rattle.wac_graph.specs.Means.{means}
+use Rattle.wac_graph.specs.Origin.{Naming}
+use Rattle.wac_resolution_rules.specs.Expressions.{at, alias_at, Accesses}
+use Rattle.wac_resolution_state.specs.Nodes.{composition_of}
+use Rattle.wac_resolution_state.specs.NodeGrowth.{GrowsNodes}
+
+-- the node of the new graph is the alias of that export, of this kind, of the old one's node
+pub record AliasStep (old new : Parts) (node : ℕ) (name : List ℕ) (k : ItemKind) (n : ℕ) : Type 0 where
+  pub grows : GrowsNodes old new
+  pub there : n < length new.nodes
+  pub is : (naming : Naming) (declared : Named ℕ)
+      → at (composition_of naming new declared) n ≡ alias_at (at (composition_of naming old declared) node) name
+      (means naming old k)
+
+-- applied to the old graph's node, the access denotes the new one's
+pub record AccessStep (old new : Parts) (node : ℕ) (p : PostfixExpr) (n : ℕ) : Type 0 where
+  pub grows : GrowsNodes old new
+  pub there : n < length new.nodes
+  pub goes : (naming : Naming) (declared : Named ℕ)
+      → Accesses (at (composition_of naming old declared) node) p (at (composition_of naming new declared) n)
+
+-- accesses, in order
+pub record AccessSteps (old new : Parts) (node : ℕ) (ps : List PostfixExpr) (n : ℕ) : Type 0 where
+  pub grows : GrowsNodes old new
+  pub there : n < length new.nodes
+  pub go : (naming : Naming) (declared : Named ℕ)
+      → Steps Accesses (at (composition_of naming old declared) node) ps (at (composition_of naming new declared) n)

@@ -1,0 +1,10 @@
+pub mod Statements
+pub mod Defined
+pub mod Imports
+pub mod Externs
+pub mod Exports
+pub mod Spreads
+pub mod Used
+pub mod Testing
+pub mod Imported
+pub mod Outcome

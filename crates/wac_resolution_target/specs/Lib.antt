@@ -1,4 +1,0 @@
-pub mod Used
-pub mod Testing
-pub mod Imported
-pub mod Outcome

@@ -1,0 +1,144 @@
+//! Declarations of types in a body.
+ghost use Rattle.std.specs.Prelude.{OnOk};
+ghost use Rattle.wac_ast_grammar.specs.Tree.{ItemTypeDecl as ItemTree};
+ghost use Rattle.wac_ast_types.specs.Declarations.{variant_decl_of, record_decl_of, flags_decl_of, enum_decl_of, type_alias_of, item_type_decl_of};
+ghost use Rattle.wac_graph.specs.Origin.{Naming};
+ghost use Rattle.wac_resolution_rules.specs.BrokenBodies.{ItemBroken};
+ghost use Rattle.wac_resolution_rules.specs.Errors.{ErrorSays};
+ghost use Rattle.wac_resolution_state.specs.Bindings.{places_of};
+ghost use Rattle.wac_resolution_types.specs.Lists.{lists_of};
+ghost use Rattle.wac_resolution_types.specs.Bodies.{body_of, IsBody, DeclarationStep};
+ghost use Rattle.wac_resolution_types.specs.Owners.{owner_of};
+
+use crate::Place;
+use crate::body::Body;
+use crate::new_name::declare;
+use crate::resource::resource;
+use crate::section::Section;
+use wac_ast_types::{EnumDecl, FlagsDecl, ItemTypeDecl, RecordDecl, TypeAlias, VariantDecl};
+use wac_graph::{ItemKind, Type};
+use wac_resolution_errors::Error;
+use wac_resolution_state::State;
+
+/// Takes a variant.
+fn variant<'a>(
+    state: &mut State,
+    body: &mut Body<'a>,
+    section: &Section<'_>,
+    decl: &VariantDecl<'a>,
+) -> Result<(), Error>
+    requires { IsBody state.old.graph.types section.now.side (lists_of body.old) }
+    ensures ok { OnOk result (DeclarationStep section.now.side state.old.graph state.new.graph (lists_of body.old)
+        (lists_of body.new) (ItemTree.variant (variant_decl_of decl.now))) }
+    ensures err { ErrorSays result (λ e. (naming : Naming)
+        → ItemBroken naming (owner_of section.now.owner) section.now.side (places_of body.old.names)
+        (body_of naming state.old.graph body.old) (ItemTree.variant (variant_decl_of decl.now)) e) }
+{
+    let value = crate::variant(state, &body.names, decl)?;
+    let kind = ItemKind::Ty(Type::Value(value));
+    declare(state.alloc, body, section, &decl.id, kind)?;
+    Ok(())
+}
+
+/// Takes a record.
+fn record<'a>(
+    state: &mut State,
+    body: &mut Body<'a>,
+    section: &Section<'_>,
+    decl: &RecordDecl<'a>,
+) -> Result<(), Error>
+    requires { IsBody state.old.graph.types section.now.side (lists_of body.old) }
+    ensures ok { OnOk result (DeclarationStep section.now.side state.old.graph state.new.graph (lists_of body.old)
+        (lists_of body.new) (ItemTree.record_decl (record_decl_of decl.now))) }
+    ensures err { ErrorSays result (λ e. (naming : Naming)
+        → ItemBroken naming (owner_of section.now.owner) section.now.side (places_of body.old.names)
+        (body_of naming state.old.graph body.old) (ItemTree.record_decl (record_decl_of decl.now)) e) }
+{
+    let value = crate::record(state, &body.names, decl)?;
+    let kind = ItemKind::Ty(Type::Value(value));
+    declare(state.alloc, body, section, &decl.id, kind)?;
+    Ok(())
+}
+
+/// Takes flags.
+fn flags<'a>(
+    state: &mut State,
+    body: &mut Body<'a>,
+    section: &Section<'_>,
+    decl: &FlagsDecl<'a>,
+) -> Result<(), Error>
+    requires { IsBody state.old.graph.types section.now.side (lists_of body.old) }
+    ensures ok { OnOk result (DeclarationStep section.now.side state.old.graph state.new.graph (lists_of body.old)
+        (lists_of body.new) (ItemTree.flags (flags_decl_of decl.now))) }
+    ensures err { ErrorSays result (λ e. (naming : Naming)
+        → ItemBroken naming (owner_of section.now.owner) section.now.side (places_of body.old.names)
+        (body_of naming state.old.graph body.old) (ItemTree.flags (flags_decl_of decl.now)) e) }
+{
+    let value = crate::flags(state, decl)?;
+    let kind = ItemKind::Ty(Type::Value(value));
+    declare(state.alloc, body, section, &decl.id, kind)?;
+    Ok(())
+}
+
+/// Takes an enum.
+fn enumeration<'a>(
+    state: &mut State,
+    body: &mut Body<'a>,
+    section: &Section<'_>,
+    decl: &EnumDecl<'a>,
+) -> Result<(), Error>
+    requires { IsBody state.old.graph.types section.now.side (lists_of body.old) }
+    ensures ok { OnOk result (DeclarationStep section.now.side state.old.graph state.new.graph (lists_of body.old)
+        (lists_of body.new) (ItemTree.enum (enum_decl_of decl.now))) }
+    ensures err { ErrorSays result (λ e. (naming : Naming)
+        → ItemBroken naming (owner_of section.now.owner) section.now.side (places_of body.old.names)
+        (body_of naming state.old.graph body.old) (ItemTree.enum (enum_decl_of decl.now)) e) }
+{
+    let value = crate::enumeration(state, decl)?;
+    let kind = ItemKind::Ty(Type::Value(value));
+    declare(state.alloc, body, section, &decl.id, kind)?;
+    Ok(())
+}
+
+/// Takes an alias.
+fn alias<'a>(
+    state: &mut State,
+    body: &mut Body<'a>,
+    section: &Section<'_>,
+    decl: &TypeAlias<'a>,
+) -> Result<(), Error>
+    requires { IsBody state.old.graph.types section.now.side (lists_of body.old) }
+    ensures ok { OnOk result (DeclarationStep section.now.side state.old.graph state.new.graph (lists_of body.old)
+        (lists_of body.new) (ItemTree.alias (type_alias_of decl.now))) }
+    ensures err { ErrorSays result (λ e. (naming : Naming)
+        → ItemBroken naming (owner_of section.now.owner) section.now.side (places_of body.old.names)
+        (body_of naming state.old.graph body.old) (ItemTree.alias (type_alias_of decl.now)) e) }
+{
+    let kind = crate::alias(state, &body.names, Place::Body, decl.id.string, &decl.kind)?;
+    declare(state.alloc, body, section, &decl.id, kind)?;
+    Ok(())
+}
+
+/// Takes the declaration of a type.
+pub fn item<'a>(
+    state: &mut State,
+    body: &mut Body<'a>,
+    section: &Section<'_>,
+    decl: &ItemTypeDecl<'a>,
+) -> Result<(), Error>
+    requires { IsBody state.old.graph.types section.now.side (lists_of body.old) }
+    ensures ok { OnOk result (DeclarationStep section.now.side state.old.graph state.new.graph (lists_of body.old)
+        (lists_of body.new) (item_type_decl_of decl.now)) }
+    ensures err { ErrorSays result (λ e. (naming : Naming)
+        → ItemBroken naming (owner_of section.now.owner) section.now.side (places_of body.old.names)
+        (body_of naming state.old.graph body.old) (item_type_decl_of decl.now) e) }
+{
+    match decl {
+        ItemTypeDecl::Resource(decl) => resource(state, body, section, decl),
+        ItemTypeDecl::Variant(decl) => variant(state, body, section, decl),
+        ItemTypeDecl::Record(decl) => record(state, body, section, decl),
+        ItemTypeDecl::Flags(decl) => flags(state, body, section, decl),
+        ItemTypeDecl::Enum(decl) => enumeration(state, body, section, decl),
+        ItemTypeDecl::Alias(decl) => alias(state, body, section, decl),
+    }
+}
