@@ -1,5 +1,5 @@
 pub mod Common
-mod Copies
+mod PackageCopies
 mod Declares
 mod First
 mod Refuses

@@ -27,7 +27,7 @@ pub(crate) fn has(packages: &IndexMap<PackageKey, Package>, key: &PackageKey) ->
 }
 
 /// Puts a package under a key.
-#[tactic(auto, using(crate::proofs::Copies::puts))]
+#[tactic(auto, using(crate::proofs::PackageCopies::puts))]
 pub(crate) fn put(
     packages: &mut IndexMap<PackageKey, Package>,
     key: PackageKey,
@@ -59,7 +59,7 @@ pub(crate) fn copied_key(alloc: Global, key: &PackageKey) -> Result<PackageKey, 
 }
 
 /// Adds a copy of a package, which is one of those made.
-#[tactic(auto, using(crate::proofs::Copies::copies_more, crate::proofs::Copies::supplies_copy))]
+#[tactic(auto, using(crate::proofs::PackageCopies::copies_more, crate::proofs::PackageCopies::supplies_copy))]
 fn supply_copy(
     alloc: Global,
     made: &IndexMap<PackageKey, Package>,

@@ -13,8 +13,8 @@ ghost use Rattle.wac_resolution_types.specs.Bodies.{body_of, IsBody, ResourceSte
 ghost use Rattle.wac_resolution_types.specs.Owners.{owner_of};
 
 use crate::body::Body;
-use crate::method::{NewResource, add_methods};
 use crate::new_name::{check_extern, check_name};
+use crate::resource_methods::{NewResource, add_methods};
 use crate::section::Section;
 use wac_ast_base::Ident;
 use wac_ast_types::ResourceDecl;

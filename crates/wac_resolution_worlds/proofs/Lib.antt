@@ -13,4 +13,4 @@ pub mod Declaring
 pub mod Found
 pub mod Read
 pub mod Taken
-pub mod Worlds
+pub mod IncludedWorlds

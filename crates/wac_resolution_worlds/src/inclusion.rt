@@ -115,7 +115,7 @@ impl<'x, 'a> Inclusion<'x, 'a> {
     }
 
     /// The world that a kind is, or that it is a component of.
-    #[tactic(auto, using(crate::proofs::Worlds::worlds_told))]
+    #[tactic(auto, using(crate::proofs::IncludedWorlds::worlds_told))]
     pub(crate) fn world_of(&self, kind: ItemKind) -> Result<WorldId, Error>
         ensures ok { IfOk result (λ w. IsWorldKind kind w) }
         ensures err { ErrorSays result (λ e. (naming : Naming) (g : Parts)

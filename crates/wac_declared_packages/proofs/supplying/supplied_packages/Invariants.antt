@@ -1,4 +1,4 @@
-use Rattle.wac_declared_packages.proofs.Copies.{Supplying}
+use Rattle.wac_declared_packages.proofs.PackageCopies.{Supplying}
 use Rattle.wac_declared_packages.proofs.supplying.supplied_packages.Given as goal
 
 abbrev pub invariant-loop-key : goal.invariant-loop-key

@@ -1,7 +1,7 @@
 use Rattle.wac_resolution_worlds.proofs.Common.{inl, err_from_is_err_and, by_name, told, reports}
 use Rattle.wac_resolution_worlds.specs.Entries.{entries_of}
 use Rattle.wac_resolution_worlds.specs.Taking.{tree_of}
-use Rattle.wac_resolution_worlds.proofs.Worlds.{is_included, world_breaks}
+use Rattle.wac_resolution_worlds.proofs.IncludedWorlds.{is_included, world_breaks}
 use Rattle.wac_resolution_worlds.proofs.inclusion.Inclusion.take.Goals as goal
 
 pub returns-in_err-world-clause-err : goal.returns-in_err-world-clause-err

@@ -1,6 +1,6 @@
 use Rattle.wac_resolution_worlds.proofs.Common.{err_from_is_err_and, by_name, told, reports}
 use Rattle.wac_resolution_worlds.specs.Taking.{tree_of, clause_of}
-use Rattle.wac_resolution_worlds.proofs.Worlds.{world_taken, imports_break, exports_break, left_breaks}
+use Rattle.wac_resolution_worlds.proofs.IncludedWorlds.{world_taken, imports_break, exports_break, left_breaks}
 use Rattle.wac_resolution_worlds.proofs.inclusion.Inclusion.take_world.Goals as goal
 
 pub returns-in_err-take_imports-clause-err : goal.returns-in_err-take_imports-clause-err

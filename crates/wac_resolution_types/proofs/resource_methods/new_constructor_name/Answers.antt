@@ -2,7 +2,7 @@ use Rattle.wac_resolution_types.proofs.Common.{◌≡◌, ◌∙◌, ℕ, List, 
 use Rattle.wac_resolution_types.specs.Bodies.{body_of}
 use Rattle.wac_resolution_types.specs.Lists.{lists_of}
 use Rattle.wac_resolution_types.proofs.Lists.{extern_stands}
-use Rattle.wac_resolution_types.proofs.method.new_constructor_name.Goals as goal
+use Rattle.wac_resolution_types.proofs.resource_methods.new_constructor_name.Goals as goal
 
 pub returns-in_ok-from_str-in-Some-clause-err : goal.returns-in_ok-from_str-in-Some-clause-err
 returns-in_ok-from_str-in-Some-clause-err c = inr (λ naming g.

@@ -1,7 +1,7 @@
 use Rattle.wac_resolution_types.proofs.Common.{◌∙◌, sym, ident_of, inr}
 use Rattle.wac_resolution_types.specs.Lists.{lists_of}
 use Rattle.wac_resolution_types.proofs.Methods.{method_taken, static_taken}
-use Rattle.wac_resolution_types.proofs.method.new_method_name.Goals as goal
+use Rattle.wac_resolution_types.proofs.resource_methods.new_method_name.Goals as goal
 
 pub returns-then-is_some-clause-err : goal.returns-then-is_some-clause-err
 returns-then-is_some-clause-err c = inr (λ naming g.

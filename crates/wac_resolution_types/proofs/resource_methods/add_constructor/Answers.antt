@@ -4,7 +4,7 @@ use Rattle.wac_graph_types.specs.declared.kind.FuncKind.TheVariants as funcs
 use Rattle.wac_ast_types.specs.declared.func_type.NamedType.{NamedType}
 use Rattle.wac_resolution_types.specs.Lists.{lists_of}
 use Rattle.wac_resolution_types.proofs.Methods.{constructor_goes, params_break}
-use Rattle.wac_resolution_types.proofs.method.add_constructor.Goals as goal
+use Rattle.wac_resolution_types.proofs.resource_methods.add_constructor.Goals as goal
 
 pub returns-in_err-full-clause-err : goal.returns-in_err-full-clause-err
 returns-in_err-full-clause-err c =

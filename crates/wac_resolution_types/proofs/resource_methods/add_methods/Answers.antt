@@ -4,7 +4,7 @@ use Rattle.wac_graph_types.specs.declared.kind.«Type».TheVariants as types
 use Rattle.wac_resolution_types.specs.Lists.{lists_of}
 use Rattle.wac_resolution_types.proofs.Going.{none_go, items_all}
 use Rattle.wac_resolution_types.proofs.Methods.{methods_step, methods_break}
-use Rattle.wac_resolution_types.proofs.method.add_methods.Goals as goal
+use Rattle.wac_resolution_types.proofs.resource_methods.add_methods.Goals as goal
 
 pub loop-method-init : goal.loop-method-init
 loop-method-init c = none_go (λ naming. HasMethod c.args.side c.args.resource.now.name.now (entry_means naming c.args.state.now.graph c.args.resource.now.id.0)) c.args.side c.args.state.now.graph (lists_of c.args.body.now) c.requires.body

@@ -1,4 +1,4 @@
-use Rattle.wac_resolution_types.proofs.method.add_either.Goals as goal
+use Rattle.wac_resolution_types.proofs.resource_methods.add_either.Goals as goal
 
 pub returns-in-Constructor-clause-err : goal.returns-in-Constructor-clause-err
 returns-in-Constructor-clause-err c = rw c.in-Constructor.is c.add_constructor.ensures.err

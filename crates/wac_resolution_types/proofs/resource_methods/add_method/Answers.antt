@@ -1,7 +1,7 @@
 use Rattle.wac_resolution_types.proofs.Common.{◌≡◌, ◌∙◌, inl, err_from_is_err_and, method_of, told, name_of_method, reports}
 use Rattle.wac_resolution_types.specs.Lists.{lists_of}
 use Rattle.wac_resolution_types.proofs.Methods.{method_goes, func_breaks}
-use Rattle.wac_resolution_types.proofs.method.add_method.Goals as goal
+use Rattle.wac_resolution_types.proofs.resource_methods.add_method.Goals as goal
 
 pub returns-in_err-full-clause-err : goal.returns-in_err-full-clause-err
 returns-in_err-full-clause-err c =
