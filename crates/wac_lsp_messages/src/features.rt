@@ -1,5 +1,4 @@
 //! What a client takes of answers.
-use crate::fields::field;
 use crate::markup::{Markup, hover_markup};
 use serde_json::Value;
 
@@ -40,39 +39,17 @@ impl Features {
     }
 }
 
-/// A capability of a client, if it names that.
-fn capability<'v>(
-    capabilities: &'v Value,
-    group: &str,
-    method: &str,
-    name: &str,
-) -> Option<&'v Value> {
-    let group = field(capabilities, group)?;
-    let method = field(group, method)?;
-    field(method, name)
-}
-
-/// Whether a client says that it has a capability.
-fn has(capabilities: &Value, group: &str, method: &str, name: &str) -> bool {
-    match capability(capabilities, group, method, name) {
+/// Whether a client says that it has the capability at this path.
+fn has(capabilities: &Value, path: &str) -> bool {
+    match capabilities.pointer(path) {
         Some(value) => value.as_bool().unwrap_or(false),
         None => false,
     }
 }
 
-/// The same of a capability of documents.
-fn of_documents(capabilities: &Value, method: &str, name: &str) -> bool {
-    has(capabilities, "textDocument", method, name)
-}
-
 /// Whether a client describes which actions it takes that are no commands.
 fn takes_action_literals(capabilities: &Value) -> bool {
-    match capability(
-        capabilities,
-        "textDocument",
-        "codeAction",
-        "codeActionLiteralSupport",
-    ) {
+    match capabilities.pointer("/textDocument/codeAction/codeActionLiteralSupport") {
         Some(value) => value.is_object(),
         None => false,
     }
@@ -81,26 +58,22 @@ fn takes_action_literals(capabilities: &Value) -> bool {
 /// What a client takes of answers, by its capabilities.
 pub(crate) fn read_features(capabilities: &Value) -> Features {
     Features {
-        nested_symbols: of_documents(
+        nested_symbols: has(
             capabilities,
-            "documentSymbol",
-            "hierarchicalDocumentSymbolSupport",
+            "/textDocument/documentSymbol/hierarchicalDocumentSymbolSupport",
         ),
-        versioned_edits: has(
-            capabilities,
-            "workspace",
-            "workspaceEdit",
-            "documentChanges",
-        ),
+        versioned_edits: has(capabilities, "/workspace/workspaceEdit/documentChanges"),
         action_literals: takes_action_literals(capabilities),
-        folds_lines: of_documents(capabilities, "foldingRange", "lineFoldingOnly"),
-        related_information: of_documents(capabilities, "publishDiagnostics", "relatedInformation"),
-        code_descriptions: of_documents(
+        folds_lines: has(capabilities, "/textDocument/foldingRange/lineFoldingOnly"),
+        related_information: has(
             capabilities,
-            "publishDiagnostics",
-            "codeDescriptionSupport",
+            "/textDocument/publishDiagnostics/relatedInformation",
         ),
-        prepared_renames: of_documents(capabilities, "rename", "prepareSupport"),
+        code_descriptions: has(
+            capabilities,
+            "/textDocument/publishDiagnostics/codeDescriptionSupport",
+        ),
+        prepared_renames: has(capabilities, "/textDocument/rename/prepareSupport"),
         hover_markup: hover_markup(capabilities),
     }
 }

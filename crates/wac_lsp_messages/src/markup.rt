@@ -1,5 +1,4 @@
 //! The format in which a client shows texts.
-use crate::fields::field;
 use serde_json::Value;
 
 /// The format of a text that a client shows.
@@ -20,16 +19,11 @@ fn markup_named(name: &str) -> Option<Markup> {
     }
 }
 
-/// The formats in which a client shows what is said of a name, in order of preference.
-fn hover_formats(capabilities: &Value) -> Option<&Value> {
-    let document = field(capabilities, "textDocument")?;
-    field(field(document, "hover")?, "contentFormat")
-}
-
 /// The format in which a client is told what is said of a name: the first of its formats that the protocol has, and plain
 /// text where it names none.
 pub(crate) fn hover_markup(capabilities: &Value) -> Markup {
-    let Some(Value::Array(formats)) = hover_formats(capabilities) else {
+    let Some(Value::Array(formats)) = capabilities.pointer("/textDocument/hover/contentFormat")
+    else {
         return Markup::PlainText;
     };
     for format in formats {

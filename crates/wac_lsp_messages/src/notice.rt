@@ -1,8 +1,8 @@
 //! Notifications of a client.
 ghost use Rattle.std.specs.Prelude.{◌≡◌, IfOk, Some, codes, map, option_map, string_bytes};
-ghost use Rattle.serde_json.specs.View.{view};
+ghost use Rattle.serde_json.specs.View.{items_view, view};
 ghost use Rattle.wac_lsp_messages.specs.Notices.{IsNoticeOf, change_of, changes_in, folders_in, replaced, said};
-ghost use Rattle.wac_lsp_messages.specs.Reading.{place_of, range_of, uri_in, version_in};
+ghost use Rattle.wac_lsp_messages.specs.Reading.{each, place_of, range_of, text_in, uri_in, version_in};
 
 use crate::fields::{count, document_text, field, owned_text, uri};
 use serde_json::Value;
@@ -126,13 +126,11 @@ fn read_change(alloc: Global, value: &Value) -> Result<Option<Change>, AllocErro
     }
 }
 
-/// The changes of a notice, if each value is one.
-fn read_changes(alloc: Global, params: &Value) -> Result<Option<Vec<Change>>, AllocError>
-    ensures { IfOk result (λ found. option_map (λ all. map said all.items) found ≡ changes_in (view params.now)) }
+/// The changes that values are, if each is one.
+fn read_each_change(alloc: Global, values: &[Value]) -> Result<Option<Vec<Change>>, AllocError>
+    ensures { IfOk result (λ found. option_map (λ all. map said all.items) found
+        ≡ each change_of (items_view values.now)) }
 {
-    let Some(Value::Array(values)) = field(params, "contentChanges") else {
-        return Ok(None);
-    };
     let mut all = Vec::new(alloc);
     for value in values {
         match read_change(alloc, value)? {
@@ -141,6 +139,16 @@ fn read_changes(alloc: Global, params: &Value) -> Result<Option<Vec<Change>>, Al
         }
     }
     Ok(Some(all))
+}
+
+/// The changes of a notice, if each value is one.
+fn read_changes(alloc: Global, params: &Value) -> Result<Option<Vec<Change>>, AllocError>
+    ensures { IfOk result (λ found. option_map (λ all. map said all.items) found ≡ changes_in (view params.now)) }
+{
+    match field(params, "contentChanges") {
+        Some(Value::Array(values)) => read_each_change(alloc, values),
+        _ => Ok(None),
+    }
 }
 
 /// That a document was opened.
@@ -200,6 +208,21 @@ fn read_closed(alloc: Global, params: &Value) -> Result<Notice, AllocError>
     }
 }
 
+/// The URIs of folders, if each value has one.
+fn read_each_folder(alloc: Global, values: &[Value]) -> Result<Option<Vec<String>>, AllocError>
+    ensures { IfOk result (λ found. option_map (λ all. map string_bytes all.items) found
+        ≡ each (text_in (codes "uri")) (items_view values.now)) }
+{
+    let mut all = Vec::new(alloc);
+    for value in values {
+        match owned_text(alloc, value, "uri")? {
+            Some(uri) => all.push(uri)?,
+            None => return Ok(None),
+        }
+    }
+    Ok(Some(all))
+}
+
 /// The URIs of the folders that a field of the event lists, if each value there has one.
 fn read_folders(
     alloc: Global,
@@ -212,17 +235,10 @@ fn read_folders(
     let Some(event) = field(params, "event") else {
         return Ok(None);
     };
-    let Some(Value::Array(folders)) = field(event, name) else {
-        return Ok(None);
-    };
-    let mut all = Vec::new(alloc);
-    for folder in folders {
-        match owned_text(alloc, folder, "uri")? {
-            Some(uri) => all.push(uri)?,
-            None => return Ok(None),
-        }
+    match field(event, name) {
+        Some(Value::Array(folders)) => read_each_folder(alloc, folders),
+        _ => Ok(None),
     }
-    Ok(Some(all))
 }
 
 /// That the client has other folders open.

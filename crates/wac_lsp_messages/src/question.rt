@@ -1,8 +1,8 @@
 //! What a client asks of a document.
 ghost use Rattle.std.specs.Prelude.{◌≡◌, IfOk, codes, option_map};
-ghost use Rattle.serde_json.specs.View.{view};
+ghost use Rattle.serde_json.specs.View.{items_view, view};
 ghost use Rattle.wac_lsp_messages.specs.Calls.{IsPlaceRead, IsTopicRead, options_in, positions_in};
-ghost use Rattle.wac_lsp_messages.specs.Reading.{range_in};
+ghost use Rattle.wac_lsp_messages.specs.Reading.{each, place_of, range_in};
 
 use crate::fields::{count, field, flag};
 use crate::navigation::{
@@ -126,14 +126,10 @@ fn read_actions(params: &Value) -> QuestionResult
     }
 }
 
-/// The places of a question, if each value is one.
-#[tactic(auto, using(crate::proofs::Each::each_same_ends))]
-fn read_places(alloc: Global, params: &Value) -> Result<Option<Vec<Place>>, AllocError>
-    ensures { IfOk result (λ found. option_map (λ all. all.items) found ≡ positions_in (view params.now)) }
+/// The places that values are, if each is one.
+fn read_each_place(alloc: Global, values: &[Value]) -> Result<Option<Vec<Place>>, AllocError>
+    ensures { IfOk result (λ found. option_map (λ all. all.items) found ≡ each place_of (items_view values.now)) }
 {
-    let Some(Value::Array(values)) = field(params, "positions") else {
-        return Ok(None);
-    };
     let mut all = Vec::new(alloc);
     for value in values {
         match read_place(value) {
@@ -142,6 +138,16 @@ fn read_places(alloc: Global, params: &Value) -> Result<Option<Vec<Place>>, Allo
         }
     }
     Ok(Some(all))
+}
+
+/// The places of a question, if each value is one.
+fn read_places(alloc: Global, params: &Value) -> Result<Option<Vec<Place>>, AllocError>
+    ensures { IfOk result (λ found. option_map (λ all. all.items) found ≡ positions_in (view params.now)) }
+{
+    match field(params, "positions") {
+        Some(Value::Array(values)) => read_each_place(alloc, values),
+        _ => Ok(None),
+    }
 }
 
 /// What is around places of a document.

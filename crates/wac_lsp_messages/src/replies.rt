@@ -1,4 +1,7 @@
 //! The messages of the server.
+//!
+//! An object's members are sorted, whatever the order in which they are given. So an owned value is given first, and no
+//! way out behind it has to drop it, which each would have to be proved to do.
 ghost use Rattle.std.specs.Prelude.{◌≡◌, Some, None, IfOk, codes, option_map, string_bytes};
 ghost use Rattle.serde_json.specs.Find.{get};
 ghost use Rattle.serde_json.specs.View.{view};
@@ -25,9 +28,7 @@ fn reply_value(alloc: Global, id: &Id, value: Value) -> Result<Value, AllocError
     ensures has { IfOk result (λ message. get (codes "result") (view message) ≡ Some (view value)) }
     ensures no_error { IfOk result (λ message. get (codes "error") (view message) ≡ None) }
 {
-    let given = id.to_value(alloc)?;
-    let message = json!(in alloc; {"jsonrpc": "2.0", "id": given, "result": value})?;
-    Ok(message)
+    json!(in alloc; {"result": value, "id": id.to_value(alloc)?, "jsonrpc": "2.0"})
 }
 
 /// The reply to a request, with what it asked for.
@@ -45,8 +46,7 @@ fn error_value(alloc: Global, refusal: Refusal) -> Result<Value, AllocError>
 {
     let code = refusal.code.number();
     let text = refusal.message;
-    let error = json!(in alloc; {"code": code, "message": text})?;
-    Ok(error)
+    json!(in alloc; {"code": code, "message": text})
 }
 
 /// The reply to a request that is refused with this error, as a value.
@@ -56,9 +56,7 @@ fn refused_value(alloc: Global, id: Option<&Id>, error: Value) -> Result<Value, 
     ensures has { IfOk result (λ message. get (codes "error") (view message) ≡ Some (view error)) }
     ensures no_result { IfOk result (λ message. get (codes "result") (view message) ≡ None) }
 {
-    let given = id_value(alloc, id)?;
-    let message = json!(in alloc; {"jsonrpc": "2.0", "id": given, "error": error})?;
-    Ok(message)
+    json!(in alloc; {"error": error, "id": id_value(alloc, id)?, "jsonrpc": "2.0"})
 }
 
 /// The reply to a request that is refused, or to what is no message.
@@ -73,5 +71,5 @@ pub fn refused(alloc: Global, id: Option<&Id>, refusal: Refusal) -> Result<Strin
 
 /// A notification of the server.
 pub fn notification(alloc: Global, method: &str, params: Value) -> Result<String, AllocError> {
-    json!(in alloc; {"jsonrpc": "2.0", "method": method, "params": params})?.to_string(alloc)
+    json!(in alloc; {"params": params, "method": method, "jsonrpc": "2.0"})?.to_string(alloc)
 }
