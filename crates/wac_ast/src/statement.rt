@@ -7,7 +7,7 @@ ghost use Rattle.wac_ast.specs.Statements.{statement_of};
 use crate::type_statement::TypeStatement;
 use std::alloc::Global;
 use std::fmt;
-use wac_ast_base::{Lookahead, Parse, ParseResult, Peek};
+use wac_ast_base::{Lookahead, Parse, ParseResult, Peek, write_variant};
 use wac_ast_statements::{ExportStatement, LetStatement};
 use wac_ast_worlds::ImportStatement;
 use wac_lexer::Lexer;
@@ -28,10 +28,10 @@ pub enum Statement<'a> {
 impl fmt::Debug for Statement<'_> {
     fn fmt<W: fmt::Write>(&self, f: &mut fmt::Formatter<W>) -> fmt::Result {
         match self {
-            Statement::Import(part) => write!(f, "Import({part:?})"),
-            Statement::Ty(part) => write!(f, "Ty({part:?})"),
-            Statement::Let(part) => write!(f, "Let({part:?})"),
-            Statement::Export(part) => write!(f, "Export({part:?})"),
+            Statement::Import(part) => write_variant(f, "Import", part),
+            Statement::Ty(part) => write_variant(f, "Ty", part),
+            Statement::Let(part) => write_variant(f, "Let", part),
+            Statement::Export(part) => write_variant(f, "Export", part),
         }
     }
 }

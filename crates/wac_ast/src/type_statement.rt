@@ -7,7 +7,7 @@ ghost use Rattle.wac_ast.specs.Statements.{type_statement_of};
 
 use std::alloc::Global;
 use std::fmt;
-use wac_ast_base::{Lookahead, Parse, ParseResult, Peek};
+use wac_ast_base::{Lookahead, Parse, ParseResult, Peek, write_variant};
 use wac_ast_types::TypeDecl;
 use wac_ast_worlds::{InterfaceDecl, WorldDecl};
 use wac_lexer::Lexer;
@@ -26,9 +26,9 @@ pub enum TypeStatement<'a> {
 impl fmt::Debug for TypeStatement<'_> {
     fn fmt<W: fmt::Write>(&self, f: &mut fmt::Formatter<W>) -> fmt::Result {
         match self {
-            TypeStatement::Interface(part) => write!(f, "Interface({part:?})"),
-            TypeStatement::World(part) => write!(f, "World({part:?})"),
-            TypeStatement::Ty(part) => write!(f, "Ty({part:?})"),
+            TypeStatement::Interface(part) => write_variant(f, "Interface", part),
+            TypeStatement::World(part) => write_variant(f, "World", part),
+            TypeStatement::Ty(part) => write_variant(f, "Ty", part),
         }
     }
 }

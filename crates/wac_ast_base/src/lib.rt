@@ -1,6 +1,7 @@
 //! Part of `wac_ast`: what every parser of WAC uses: errors, lookahead, taking tokens, lists, names.
 #![tactic(auto)]
 
+mod debug;
 mod delimited;
 mod error;
 mod laws;
@@ -13,6 +14,7 @@ mod pieces;
 mod segments;
 mod version;
 
+pub use debug::write_variant;
 pub use delimited::{begins, no_item, parse_body, parse_list, take_comma};
 pub use error::{Error, ParseResult};
 pub use laws::{parsers_stop_at_first_faults, segments_stand_at_their_spans};

@@ -10,7 +10,7 @@ use std::alloc::Global;
 use std::fmt;
 use wac_ast_base::{
     DocComment, Error, ExternName, Lookahead, Parse, ParseResult, Peek, at, parse_before,
-    parse_docs, take_token,
+    parse_docs, take_token, write_variant,
 };
 use wac_lexer::{Lexer, SourceSpan, Token};
 
@@ -82,8 +82,8 @@ impl fmt::Debug for ExportOptions<'_> {
     fn fmt<W: fmt::Write>(&self, f: &mut fmt::Formatter<W>) -> fmt::Result {
         match self {
             ExportOptions::None => f.write_str("None"),
-            ExportOptions::Spread(part) => write!(f, "Spread({part:?})"),
-            ExportOptions::Rename(part) => write!(f, "Rename({part:?})"),
+            ExportOptions::Spread(part) => write_variant(f, "Spread", part),
+            ExportOptions::Rename(part) => write_variant(f, "Rename", part),
         }
     }
 }

@@ -20,7 +20,7 @@ use std::alloc::Global;
 use std::fmt;
 use wac_ast_base::{
     Error, Ident, Lookahead, PackageName, Parse, ParseResult, Peek, String, at, at_second, begins,
-    boxed, join, no_item, push, take_comma, take_token,
+    boxed, join, no_item, push, take_comma, take_token, write_variant,
 };
 use wac_lexer::{Lexer, SourceSpan, Token};
 
@@ -59,9 +59,9 @@ pub enum PrimaryExpr<'a> {
 impl fmt::Debug for PrimaryExpr<'_> {
     fn fmt<W: fmt::Write>(&self, f: &mut fmt::Formatter<W>) -> fmt::Result {
         match self {
-            PrimaryExpr::New(part) => write!(f, "New({part:?})"),
-            PrimaryExpr::Nested(part) => write!(f, "Nested({part:?})"),
-            PrimaryExpr::Ident(part) => write!(f, "Ident({part:?})"),
+            PrimaryExpr::New(part) => write_variant(f, "New", part),
+            PrimaryExpr::Nested(part) => write_variant(f, "Nested", part),
+            PrimaryExpr::Ident(part) => write_variant(f, "Ident", part),
         }
     }
 }
@@ -109,10 +109,10 @@ pub enum InstantiationArgument<'a> {
 impl fmt::Debug for InstantiationArgument<'_> {
     fn fmt<W: fmt::Write>(&self, f: &mut fmt::Formatter<W>) -> fmt::Result {
         match self {
-            InstantiationArgument::Inferred(part) => write!(f, "Inferred({part:?})"),
-            InstantiationArgument::Spread(part) => write!(f, "Spread({part:?})"),
-            InstantiationArgument::Named(part) => write!(f, "Named({part:?})"),
-            InstantiationArgument::Fill(part) => write!(f, "Fill({part:?})"),
+            InstantiationArgument::Inferred(part) => write_variant(f, "Inferred", part),
+            InstantiationArgument::Spread(part) => write_variant(f, "Spread", part),
+            InstantiationArgument::Named(part) => write_variant(f, "Named", part),
+            InstantiationArgument::Fill(part) => write_variant(f, "Fill", part),
         }
     }
 }
@@ -166,8 +166,8 @@ pub enum InstantiationArgumentName<'a> {
 impl fmt::Debug for InstantiationArgumentName<'_> {
     fn fmt<W: fmt::Write>(&self, f: &mut fmt::Formatter<W>) -> fmt::Result {
         match self {
-            InstantiationArgumentName::Ident(part) => write!(f, "Ident({part:?})"),
-            InstantiationArgumentName::String(part) => write!(f, "String({part:?})"),
+            InstantiationArgumentName::Ident(part) => write_variant(f, "Ident", part),
+            InstantiationArgumentName::String(part) => write_variant(f, "String", part),
         }
     }
 }
@@ -184,8 +184,8 @@ pub enum PostfixExpr<'a> {
 impl fmt::Debug for PostfixExpr<'_> {
     fn fmt<W: fmt::Write>(&self, f: &mut fmt::Formatter<W>) -> fmt::Result {
         match self {
-            PostfixExpr::Access(part) => write!(f, "Access({part:?})"),
-            PostfixExpr::NamedAccess(part) => write!(f, "NamedAccess({part:?})"),
+            PostfixExpr::Access(part) => write_variant(f, "Access", part),
+            PostfixExpr::NamedAccess(part) => write_variant(f, "NamedAccess", part),
         }
     }
 }

@@ -13,13 +13,12 @@ ghost use Rattle.wac_ast_base.specs.Lists.{each};
 ghost use Rattle.wac_ast_base.specs.Pieces.{GivesPart, Same};
 ghost use Rattle.wac_ast_types.specs.Declarations.{named_type_of, result_list_of, func_type_of, func_type_ref_of, results_rule, named_rule, named_results};
 
-use crate::debug::write_variant;
 use crate::types::Type;
 use std::alloc::Global;
 use std::fmt;
 use wac_ast_base::{
     Error, Ident, Lookahead, Parse, ParseResult, Peek, at, begins, parse_list, take_optional,
-    take_token,
+    take_token, write_variant,
 };
 use wac_lexer::{Lexer, Token};
 

@@ -1,7 +1,6 @@
 //! Part of `wac_ast`: types of WAC and their declarations: trees and parsers.
 #![tactic(auto)]
 
-mod debug;
 mod enum_decl;
 mod flags_decl;
 mod func_type;

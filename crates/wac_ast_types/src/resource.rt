@@ -9,14 +9,13 @@ ghost use Rattle.wac_ast_base.specs.Pieces.{GivesPart, Same};
 ghost use Rattle.wac_ast_types.specs.Declarations.{constructor_of, method_of, resource_method_of, resource_decl_of};
 ghost use Rattle.wac_ast_types.specs.Tails.{resource_tail, tail_methods};
 
-use crate::debug::write_variant;
 use crate::func_type::{FuncType, NamedType};
 use crate::head::parse_head;
 use std::alloc::Global;
 use std::fmt;
 use wac_ast_base::{
     DocComment, Error, Ident, Lookahead, Parse, ParseResult, Peek, parse_before, parse_body,
-    parse_docs, parse_list, take_token, take_word,
+    parse_docs, parse_list, take_token, take_word, write_variant,
 };
 use wac_lexer::{Lexer, SourceSpan, Token};
 

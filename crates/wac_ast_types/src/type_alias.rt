@@ -5,7 +5,6 @@ ghost use Rattle.wac_ast_grammar.specs.Reading.{begins};
 ghost use Rattle.wac_ast_base.specs.Lookahead.{Peeks};
 ghost use Rattle.wac_ast_types.specs.Declarations.{type_alias_of, type_alias_kind_of};
 
-use crate::debug::write_variant;
 use crate::func_type::FuncType;
 use crate::head::parse_head;
 use crate::types::Type;
@@ -13,6 +12,7 @@ use std::alloc::Global;
 use std::fmt;
 use wac_ast_base::{
     DocComment, Error, Ident, Lookahead, Parse, ParseResult, Peek, parse_before, take_token,
+    write_variant,
 };
 use wac_lexer::{Lexer, Token};
 

@@ -7,7 +7,6 @@ ghost use Rattle.wac_ast_base.specs.Lookahead.{Peeks};
 ghost use Rattle.wac_ast_base.specs.Names.{ident_of};
 ghost use Rattle.wac_ast_types.specs.Declarations.{type_decl_of, type_decl_id, item_type_decl_of, item_type_decl_id};
 
-use crate::debug::write_variant;
 use crate::enum_decl::EnumDecl;
 use crate::flags_decl::FlagsDecl;
 use crate::record_decl::RecordDecl;
@@ -16,7 +15,7 @@ use crate::type_alias::TypeAlias;
 use crate::variant_decl::VariantDecl;
 use std::alloc::Global;
 use std::fmt;
-use wac_ast_base::{Ident, Lookahead, Parse, ParseResult, Peek};
+use wac_ast_base::{Ident, Lookahead, Parse, ParseResult, Peek, write_variant};
 use wac_lexer::Lexer;
 
 /// A type that a document declares.

@@ -10,7 +10,7 @@ use std::alloc::Global;
 use std::fmt;
 use wac_ast_base::{
     DocComment, Error, ExternName, Ident, Lookahead, PackagePath, Parse, ParseResult, Peek,
-    parse_after, parse_before, parse_docs, take_token,
+    parse_after, parse_before, parse_docs, take_token, write_variant,
 };
 use wac_ast_types::FuncType;
 use wac_lexer::{Lexer, Token};
@@ -80,10 +80,10 @@ pub enum ImportType<'a> {
 impl fmt::Debug for ImportType<'_> {
     fn fmt<W: fmt::Write>(&self, f: &mut fmt::Formatter<W>) -> fmt::Result {
         match self {
-            ImportType::Package(part) => write!(f, "Package({part:?})"),
-            ImportType::Func(part) => write!(f, "Func({part:?})"),
-            ImportType::Interface(part) => write!(f, "Interface({part:?})"),
-            ImportType::Ident(part) => write!(f, "Ident({part:?})"),
+            ImportType::Package(part) => write_variant(f, "Package", part),
+            ImportType::Func(part) => write_variant(f, "Func", part),
+            ImportType::Interface(part) => write_variant(f, "Interface", part),
+            ImportType::Ident(part) => write_variant(f, "Ident", part),
         }
     }
 }

@@ -9,7 +9,7 @@ use std::alloc::Global;
 use std::fmt;
 use wac_ast_base::{
     DocComment, Error, Ident, Lookahead, Parse, ParseResult, Peek, boxed, parse_before, parse_body,
-    parse_docs, take_token,
+    parse_docs, take_token, write_variant,
 };
 use wac_ast_types::{FuncTypeRef, ItemTypeDecl};
 use wac_ast_uses::Use;
@@ -112,9 +112,9 @@ pub enum InterfaceItem<'a> {
 impl fmt::Debug for InterfaceItem<'_> {
     fn fmt<W: fmt::Write>(&self, f: &mut fmt::Formatter<W>) -> fmt::Result {
         match self {
-            InterfaceItem::Use(part) => write!(f, "Use({part:?})"),
-            InterfaceItem::Export(part) => write!(f, "Export({part:?})"),
-            InterfaceItem::Ty(part) => write!(f, "Ty({part:?})"),
+            InterfaceItem::Use(part) => write_variant(f, "Use", part),
+            InterfaceItem::Export(part) => write_variant(f, "Export", part),
+            InterfaceItem::Ty(part) => write_variant(f, "Ty", part),
         }
     }
 }

@@ -10,7 +10,7 @@ use std::alloc::Global;
 use std::fmt;
 use wac_ast_base::{
     DocComment, Error, Ident, Lookahead, PackagePath, Parse, ParseResult, Peek, at_second,
-    parse_before, parse_body, parse_docs, take_token,
+    parse_before, parse_body, parse_docs, take_token, write_variant,
 };
 use wac_ast_types::{FuncType, ItemTypeDecl};
 use wac_ast_uses::{Use, WorldInclude};
@@ -80,11 +80,11 @@ pub enum WorldItem<'a> {
 impl fmt::Debug for WorldItem<'_> {
     fn fmt<W: fmt::Write>(&self, f: &mut fmt::Formatter<W>) -> fmt::Result {
         match self {
-            WorldItem::Use(part) => write!(f, "Use({part:?})"),
-            WorldItem::Import(part) => write!(f, "Import({part:?})"),
-            WorldItem::Export(part) => write!(f, "Export({part:?})"),
-            WorldItem::Include(part) => write!(f, "Include({part:?})"),
-            WorldItem::Ty(part) => write!(f, "Ty({part:?})"),
+            WorldItem::Use(part) => write_variant(f, "Use", part),
+            WorldItem::Import(part) => write_variant(f, "Import", part),
+            WorldItem::Export(part) => write_variant(f, "Export", part),
+            WorldItem::Include(part) => write_variant(f, "Include", part),
+            WorldItem::Ty(part) => write_variant(f, "Ty", part),
         }
     }
 }
@@ -218,9 +218,9 @@ pub enum WorldItemPath<'a> {
 impl fmt::Debug for WorldItemPath<'_> {
     fn fmt<W: fmt::Write>(&self, f: &mut fmt::Formatter<W>) -> fmt::Result {
         match self {
-            WorldItemPath::Package(part) => write!(f, "Package({part:?})"),
-            WorldItemPath::Named(part) => write!(f, "Named({part:?})"),
-            WorldItemPath::Ident(part) => write!(f, "Ident({part:?})"),
+            WorldItemPath::Package(part) => write_variant(f, "Package", part),
+            WorldItemPath::Named(part) => write_variant(f, "Named", part),
+            WorldItemPath::Ident(part) => write_variant(f, "Ident", part),
         }
     }
 }
@@ -299,9 +299,9 @@ pub enum ExternType<'a> {
 impl fmt::Debug for ExternType<'_> {
     fn fmt<W: fmt::Write>(&self, f: &mut fmt::Formatter<W>) -> fmt::Result {
         match self {
-            ExternType::Ident(part) => write!(f, "Ident({part:?})"),
-            ExternType::Func(part) => write!(f, "Func({part:?})"),
-            ExternType::Interface(part) => write!(f, "Interface({part:?})"),
+            ExternType::Ident(part) => write_variant(f, "Ident", part),
+            ExternType::Func(part) => write_variant(f, "Func", part),
+            ExternType::Interface(part) => write_variant(f, "Interface", part),
         }
     }
 }
