@@ -3,6 +3,7 @@ ghost use Rattle.std.specs.Prelude.{◌≡◌};
 
 use crate::graphs::drawn_of;
 use crate::options::{Given, Setting};
+use crate::requests::GraphRequest;
 use crate::supply::{Supply, supply_beside};
 use crate::verdicts::first_error_of;
 use std::alloc::{AllocError, Global};
@@ -10,22 +11,21 @@ use std::io::Write;
 use wac_cli_console::{Action, Console, Outcome, SourceFile, Status};
 use wac_files::{FileError, FileSystem};
 use wac_graph::CompositionGraph;
-use wac_graph_outputs::Form;
 use wac_package_errors::Composed;
 
-/// Writes the graph of the file at a path, which is resolved with the packages that other files declare; or reports its
-/// first error, and those of these files.
+/// Writes the graph of a document, which is resolved with the packages that other files declare; or reports its first
+/// error, and those of these files.
 pub fn show_graph_with_packages<F: FileSystem, O: Write + Drop, E: Write + Drop>(
     alloc: Global,
     files: &mut F,
     console: &mut Console<O, E>,
-    given: (Given<'_>, Form),
-    path: &str,
+    given: Given<'_>,
+    request: GraphRequest<'_>,
 ) -> Status
     // No file is replaced.
     ensures { F.replaced files.new ≡ F.replaced files.old }
 {
-    match show_all(alloc, files, console, given, path) {
+    match show_all(alloc, files, console, given, request) {
         Ok(status) => status.or(console.output_status()),
         Err(AllocError) => console.out_of_memory(),
     }
@@ -35,18 +35,18 @@ fn show_all<F: FileSystem, O: Write + Drop, E: Write + Drop>(
     alloc: Global,
     files: &mut F,
     console: &mut Console<O, E>,
-    given: (Given<'_>, Form),
-    path: &str,
+    given: Given<'_>,
+    request: GraphRequest<'_>,
 ) -> Result<Status, AllocError>
     ensures { F.replaced files.new ≡ F.replaced files.old }
 {
-    let supply = supply_beside(alloc, files, console, given.0, path)?;
-    let read = files.read(alloc, path);
+    let supply = supply_beside(alloc, files, console, given, request.path)?;
+    let read = files.read(alloc, request.path);
     show_supplied(
         console,
         &supply,
-        (supply.setting(alloc, given.0), given.1),
-        path,
+        supply.setting(alloc, given),
+        request,
         read,
     )
 }
@@ -55,13 +55,13 @@ fn show_all<F: FileSystem, O: Write + Drop, E: Write + Drop>(
 fn show_supplied<O: Write + Drop, E: Write + Drop>(
     console: &mut Console<O, E>,
     supply: &Supply,
-    setting: (Setting<'_>, Form),
-    path: &str,
+    setting: Setting<'_>,
+    request: GraphRequest<'_>,
     read: Result<Vec<u8>, FileError>,
 ) -> Result<Status, AllocError> {
     match read {
-        Ok(bytes) => show_read(console, supply, setting, path, bytes.as_slice()),
-        Err(error) => supply.fail(console, setting.0, path, error),
+        Ok(bytes) => show_read(console, supply, setting, request, bytes.as_slice()),
+        Err(error) => supply.fail(console, setting, request.path, error),
     }
 }
 
@@ -69,28 +69,31 @@ fn show_supplied<O: Write + Drop, E: Write + Drop>(
 fn show_read<O: Write + Drop, E: Write + Drop>(
     console: &mut Console<O, E>,
     supply: &Supply,
-    setting: (Setting<'_>, Form),
-    path: &str,
+    setting: Setting<'_>,
+    request: GraphRequest<'_>,
     bytes: &[u8],
 ) -> Result<Status, AllocError> {
-    let before = supply.report_all(console, setting.0)?;
-    let status = show_bytes(console, setting, path, bytes)?;
+    let before = supply.report_all(console, setting)?;
+    let status = show_bytes(console, setting, request, bytes)?;
     Ok(before.or(status))
 }
 
 /// Writes the graph of bytes, or reports their first error.
 fn show_bytes<O: Write + Drop, E: Write + Drop>(
     console: &mut Console<O, E>,
-    setting: (Setting<'_>, Form),
-    path: &str,
+    setting: Setting<'_>,
+    request: GraphRequest<'_>,
     bytes: &[u8],
 ) -> Result<Status, AllocError> {
-    match first_error_of(setting.0, bytes) {
-        Ok(Composed::Resolved(graph)) => show_graph(console, setting, bytes, &graph),
+    match first_error_of(setting, bytes) {
+        Ok(Composed::Resolved(graph)) => show_graph(console, setting, request, bytes, &graph),
         Ok(Composed::Unresolved) => Ok(Status::Wrong),
         Ok(Composed::Rejected(diagnostic)) => {
-            let file = SourceFile { path, text: bytes };
-            console.report(setting.0.alloc, setting.0.report, &file, &diagnostic)?;
+            let file = SourceFile {
+                path: request.path,
+                text: bytes,
+            };
+            console.report(setting.alloc, setting.report, &file, &diagnostic)?;
             Ok(Outcome::Rejected.status(Action::Check))
         }
         Err(_) => Err(AllocError),
@@ -100,11 +103,12 @@ fn show_bytes<O: Write + Drop, E: Write + Drop>(
 /// Writes the graph of the document of bytes.
 fn show_graph<O: Write + Drop, E: Write + Drop>(
     console: &mut Console<O, E>,
-    setting: (Setting<'_>, Form),
+    setting: Setting<'_>,
+    request: GraphRequest<'_>,
     bytes: &[u8],
     graph: &CompositionGraph,
 ) -> Result<Status, AllocError> {
-    let shown = drawn_of(setting.0.alloc, bytes, graph, setting.1)?;
+    let shown = drawn_of(setting.alloc, bytes, graph, request.form)?;
     console.write(shown.as_slice());
     Ok(Status::Well)
 }

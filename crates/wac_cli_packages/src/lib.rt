@@ -8,12 +8,12 @@
 
 mod checking;
 mod errors;
-mod forms;
 mod graphing;
 mod graphs;
 mod listing;
 mod options;
 mod reading;
+mod requests;
 mod showing;
 mod showing_package;
 mod sources;
@@ -23,10 +23,10 @@ mod verdicts;
 mod worlds;
 
 pub use checking::check_with_packages;
-pub use forms::PackageForm;
 pub use graphing::show_graph_with_packages;
 pub use listing::list_packages;
 pub use options::Given;
+pub use requests::{GraphRequest, PackageForm, PackageRequest, TargetRequest};
 pub use showing::show_graph;
 pub use showing_package::show_package;
 pub use targets::check_target;

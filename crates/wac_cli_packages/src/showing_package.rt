@@ -2,7 +2,7 @@
 ghost use Rattle.std.specs.Prelude.{◌≡◌};
 
 use crate::errors::{documents_diagnostic, json_diagnostic, warning};
-use crate::forms::PackageForm;
+use crate::requests::{PackageForm, PackageRequest};
 use std::alloc::{AllocError, Global};
 use std::io::Write;
 use wac_cli_console::{Action, Console, Outcome, Report, SourceFile, Status};
@@ -20,26 +20,22 @@ enum Shown {
     Rejected(Diagnostic),
 }
 
-/// Writes the package of the component at a path to the output: the documents that declare it, or what is decoded, as
-/// JSON. What is wrong, and what the documents can't say, is written to the errors; then the status is 1.
-///
-/// `asked` is the key of the package, as `demo:cache@1.2.0`, and the form. Without a key it is that of the first
-/// definition, or `root:component` where nothing is defined.
+/// Writes the package of a component to the output: the documents that declare it, or what is decoded, as JSON. What is
+/// wrong, and what the documents can't say, is written to the errors; then the status is 1.
 pub fn show_package<F: FileSystem, O: Write + Drop, E: Write + Drop>(
     alloc: Global,
     files: &mut F,
     console: &mut Console<O, E>,
-    asked: (Option<&str>, PackageForm),
-    path: &str,
+    request: PackageRequest<'_>,
 ) -> Status
     // No file is replaced.
     ensures { F.replaced files.new ≡ F.replaced files.old }
 {
-    let status = match files.read(alloc, path) {
-        Ok(bytes) => show_bytes(alloc, console, asked, path, bytes.as_slice()),
+    let status = match files.read(alloc, request.path) {
+        Ok(bytes) => show_bytes(alloc, console, request, bytes.as_slice()),
         Err(error) => Ok(
             console
-                .failed(alloc, Report::Human, path, error)
+                .failed(alloc, Report::Human, request.path, error)
                 .status(Action::Check),
         ),
     };
@@ -53,17 +49,19 @@ pub fn show_package<F: FileSystem, O: Write + Drop, E: Write + Drop>(
 fn show_bytes<O: Write + Drop, E: Write + Drop>(
     alloc: Global,
     console: &mut Console<O, E>,
-    asked: (Option<&str>, PackageForm),
-    path: &str,
+    request: PackageRequest<'_>,
     bytes: &[u8],
 ) -> Result<Status, AllocError> {
-    match shown_bytes(alloc, bytes, asked)? {
+    match shown_bytes(alloc, bytes, request)? {
         Shown::Text(text, warnings) => {
             console.write(text.as_bytes());
-            warn(alloc, console, path, warnings.as_slice())
+            warn(alloc, console, request.path, warnings.as_slice())
         }
         Shown::Rejected(diagnostic) => {
-            let file = SourceFile { path, text: b"" };
+            let file = SourceFile {
+                path: request.path,
+                text: b"",
+            };
             console.report(alloc, Report::Human, &file, &diagnostic)?;
             Ok(Outcome::Rejected.status(Action::Check))
         }
@@ -90,10 +88,10 @@ fn warn<O: Write + Drop, E: Write + Drop>(
 fn shown_bytes(
     alloc: Global,
     bytes: &[u8],
-    asked: (Option<&str>, PackageForm),
+    request: PackageRequest<'_>,
 ) -> Result<Shown, AllocError> {
     match decode(alloc, bytes, Limits::for_length(bytes.len())) {
-        Ok(decoded) => shown_component(alloc, &decoded, asked),
+        Ok(decoded) => shown_component(alloc, &decoded, request),
         Err(error) => Ok(Shown::Rejected(decode_diagnostic(alloc, error)?)),
     }
 }
@@ -102,11 +100,11 @@ fn shown_bytes(
 fn shown_component(
     alloc: Global,
     decoded: &Decoded,
-    asked: (Option<&str>, PackageForm),
+    request: PackageRequest<'_>,
 ) -> Result<Shown, AllocError> {
-    match asked {
-        (name, PackageForm::Wac) => shown_documents(alloc, decoded, name),
-        (_, PackageForm::Json) => shown_json(alloc, decoded),
+    match request.form {
+        PackageForm::Wac => shown_documents(alloc, decoded, request.name),
+        PackageForm::Json => shown_json(alloc, decoded),
     }
 }
 

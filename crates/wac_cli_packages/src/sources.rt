@@ -1,6 +1,7 @@
 // Files of packages: which are read, and what they hold.
 ghost use Rattle.std.specs.Prelude.{◌≡◌};
 
+use crate::options::Given;
 use crate::reading::{Source, read_source};
 use std::alloc::{AllocError, Global};
 use std::collections::BTreeSet;
@@ -15,6 +16,13 @@ pub(crate) struct Sources {
     pub(crate) names: Vec<String>,
     pub(crate) texts: Vec<String>,
     pub(crate) outcomes: Vec<Outcome>,
+}
+
+/// Files that may hold documents of packages, and the resolved paths of those that are checked.
+#[derive(Clone, Copy)]
+struct Candidates<'c> {
+    found: &'c [Found],
+    checked: &'c BTreeSet<String>,
 }
 
 /// The resolved paths of files.
@@ -60,35 +68,39 @@ fn without_components<'p>(alloc: Global, paths: &[&'p str]) -> Result<Vec<&'p st
     Ok(documents)
 }
 
-/// The documents that paths lead to, without the files that are checked.
+/// The documents that the paths of packages lead to, without the files that are checked.
 pub(crate) fn read_sources<F: FileSystem, O: Write + Drop, E: Write + Drop>(
     alloc: Global,
     files: &mut F,
     console: &mut Console<O, E>,
-    report: Report,
-    paths: (&[&str], &[Found]),
+    given: Given<'_>,
+    checked: &[Found],
 ) -> Result<Sources, AllocError>
     ensures { F.replaced files.new ≡ F.replaced files.old }
 {
-    let checked = resolved(alloc, files, paths.1)?;
-    let documents = without_components(alloc, paths.0)?;
+    let checked = resolved(alloc, files, checked)?;
+    let documents = without_components(alloc, given.packages)?;
     let found = find_files(alloc, files, documents.as_slice())?;
-    read_each(alloc, files, console, report, (found.as_slice(), &checked))
+    let candidates = Candidates {
+        found: found.as_slice(),
+        checked: &checked,
+    };
+    read_each(alloc, files, console, given.report, candidates)
 }
 
-/// The documents of files that were found, without those of these paths.
+/// The documents of files, without those that are checked.
 fn read_each<F: FileSystem, O: Write + Drop, E: Write + Drop>(
     alloc: Global,
     files: &mut F,
     console: &mut Console<O, E>,
     report: Report,
-    found: (&[Found], &BTreeSet<String>),
+    candidates: Candidates<'_>,
 ) -> Result<Sources, AllocError>
     ensures { F.replaced files.new ≡ F.replaced files.old }
 {
     let mut sources = Sources::new(alloc);
-    for one in found.0 {
-        if !is_among(alloc, files, one.path.as_str(), found.1) {
+    for one in candidates.found {
+        if !is_among(alloc, files, one.path.as_str(), candidates.checked) {
             let source = read_source(alloc, files, console, report, one)?;
             sources.add(alloc, one.path.as_str(), source)?;
         }

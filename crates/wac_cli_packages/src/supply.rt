@@ -33,14 +33,7 @@ pub(crate) fn read_supply<F: FileSystem, O: Write + Drop, E: Write + Drop>(
 ) -> Result<Supply, AllocError>
     ensures { F.replaced files.new ≡ F.replaced files.old }
 {
-    let sources = read_sources(
-        alloc,
-        files,
-        console,
-        given.report,
-        (given.packages, checked),
-    );
-    match sources {
+    match read_sources(alloc, files, console, given, checked) {
         Ok(sources) => read_beside(alloc, files, console, given, sources),
         Err(_) => Err(AllocError),
     }
@@ -80,30 +73,20 @@ fn supply_both<O: Write + Drop, E: Write + Drop>(
     sources: Sources,
     components: Components,
 ) -> Result<Supply, AllocError> {
-    match declare(alloc, &sources, given.worlds) {
-        Ok(declared) => add_both(alloc, console, given, (sources, declared), components),
+    match declared_supply(alloc, given, sources) {
+        Ok(supply) => add_components(alloc, console, given, supply, components),
         Err(_) => Err(AllocError),
     }
 }
 
-/// The same, with the packages of components added.
-fn add_both<O: Write + Drop, E: Write + Drop>(
+/// The packages that documents declare.
+fn declared_supply(
     alloc: Global,
-    console: &mut Console<O, E>,
     given: Given<'_>,
-    documents: (Sources, Declared),
-    components: Components,
+    sources: Sources,
 ) -> Result<Supply, AllocError> {
-    let (sources, declared) = documents;
-    match outcomes_of(alloc, &sources, &declared) {
-        Ok(outcomes) => {
-            let supply = Supply {
-                sources,
-                declared,
-                outcomes,
-            };
-            add_components(alloc, console, given, supply, components)
-        }
+    match declare(alloc, &sources, given.worlds) {
+        Ok(declared) => Supply::new(alloc, sources, declared),
         Err(_) => Err(AllocError),
     }
 }
@@ -256,6 +239,18 @@ fn text_at(texts: &[String], number: usize) -> &str {
 }
 
 impl Supply {
+    /// The supply of documents, with what they declare and what became of their files.
+    fn new(alloc: Global, sources: Sources, declared: Declared) -> Result<Supply, AllocError> {
+        match outcomes_of(alloc, &sources, &declared) {
+            Ok(outcomes) => Ok(Supply {
+                sources,
+                declared,
+                outcomes,
+            }),
+            Err(_) => Err(AllocError),
+        }
+    }
+
     /// The supply with what became of more files.
     fn with_outcomes(mut self, more: &[Outcome]) -> Result<Supply, AllocError> {
         match self.outcomes.extend_from_slice(more) {

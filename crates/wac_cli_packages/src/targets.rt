@@ -2,6 +2,7 @@
 ghost use Rattle.std.specs.Prelude.{◌≡◌};
 
 use crate::options::{Given, Setting};
+use crate::requests::TargetRequest;
 use crate::supply::{Supply, supply_beside};
 use crate::worlds::{Wanted, wanted_world};
 use std::alloc::{AllocError, Global};
@@ -12,12 +13,15 @@ use wac_diagnostics::Diagnostic;
 use wac_files::{FileError, FileSystem};
 use wac_graph::Package;
 
-/// What was read of two files: of a component, and of the document that declares a world.
-type Read = (Result<Vec<u8>, FileError>, Result<Vec<u8>, FileError>);
+/// What was read of the two files.
+#[derive(Drop)]
+struct Read {
+    component: Result<Vec<u8>, FileError>,
+    document: Result<Vec<u8>, FileError>,
+}
 
 /// Reports whether a component fits a world: nothing is written where it does, and else the first place where it
-/// doesn't. `paths` are those of the component and of the document that declares the world. `given` has the packages
-/// that the document may mention, and the name of the world where it declares several.
+/// doesn't. `given` has the packages that the world's document may mention.
 ///
 /// The component may import what the world imports and the interfaces whose types the world's items use, and has to
 /// export what the world exports; each fits by the component model's rules.
@@ -25,13 +29,13 @@ pub fn check_target<F: FileSystem, O: Write + Drop, E: Write + Drop>(
     alloc: Global,
     files: &mut F,
     console: &mut Console<O, E>,
-    given: (Given<'_>, Option<&str>),
-    paths: (&str, &str),
+    given: Given<'_>,
+    request: TargetRequest<'_>,
 ) -> Status
     // No file is replaced.
     ensures { F.replaced files.new ≡ F.replaced files.old }
 {
-    match check_all(alloc, files, console, given, paths) {
+    match check_all(alloc, files, console, given, request) {
         Ok(status) => status.or(console.output_status()),
         Err(AllocError) => console.out_of_memory(),
     }
@@ -41,20 +45,24 @@ fn check_all<F: FileSystem, O: Write + Drop, E: Write + Drop>(
     alloc: Global,
     files: &mut F,
     console: &mut Console<O, E>,
-    given: (Given<'_>, Option<&str>),
-    paths: (&str, &str),
+    given: Given<'_>,
+    request: TargetRequest<'_>,
 ) -> Result<Status, AllocError>
     ensures { F.replaced files.new ≡ F.replaced files.old }
 {
-    let supply = supply_beside(alloc, files, console, given.0, paths.1)?;
-    let component = files.read(alloc, paths.0);
-    let world = files.read(alloc, paths.1);
+    let supply = supply_beside(alloc, files, console, given, request.document)?;
+    let component = files.read(alloc, request.component);
+    let document = files.read(alloc, request.document);
+    let read = Read {
+        component,
+        document,
+    };
     check_supplied(
         console,
         &supply,
-        (supply.setting(alloc, given.0), given.1),
-        paths,
-        (component, world),
+        supply.setting(alloc, given),
+        request,
+        read,
     )
 }
 
@@ -62,28 +70,31 @@ fn check_all<F: FileSystem, O: Write + Drop, E: Write + Drop>(
 fn check_supplied<O: Write + Drop, E: Write + Drop>(
     console: &mut Console<O, E>,
     supply: &Supply,
-    setting: (Setting<'_>, Option<&str>),
-    paths: (&str, &str),
+    setting: Setting<'_>,
+    request: TargetRequest<'_>,
     read: Read,
 ) -> Result<Status, AllocError> {
-    let before = supply.report_all(console, setting.0)?;
-    let status = check_read(console, setting, paths, read)?;
+    let before = supply.report_all(console, setting)?;
+    let status = check_read(console, setting, request, read)?;
     Ok(before.or(status))
 }
 
 /// The same of what was read. Failures are reported.
 fn check_read<O: Write + Drop, E: Write + Drop>(
     console: &mut Console<O, E>,
-    setting: (Setting<'_>, Option<&str>),
-    paths: (&str, &str),
+    setting: Setting<'_>,
+    request: TargetRequest<'_>,
     read: Read,
 ) -> Result<Status, AllocError> {
-    let (component, world) = read;
+    let Read {
+        component,
+        document,
+    } = read;
     match component {
-        Ok(component) => check_beside(console, setting, paths, component.as_slice(), world),
+        Ok(component) => check_beside(console, setting, request, component.as_slice(), document),
         Err(error) => {
-            let status = fail(console, setting.0, paths.0, error);
-            Ok(status.or(status_of(console, setting.0, paths.1, world)))
+            let status = fail(console, setting, request.component, error);
+            Ok(status.or(status_of(console, setting, request.document, document)))
         }
     }
 }
@@ -91,14 +102,14 @@ fn check_read<O: Write + Drop, E: Write + Drop>(
 /// Compares the component that bytes are with the world of the document that was read.
 fn check_beside<O: Write + Drop, E: Write + Drop>(
     console: &mut Console<O, E>,
-    setting: (Setting<'_>, Option<&str>),
-    paths: (&str, &str),
+    setting: Setting<'_>,
+    request: TargetRequest<'_>,
     component: &[u8],
-    world: Result<Vec<u8>, FileError>,
+    document: Result<Vec<u8>, FileError>,
 ) -> Result<Status, AllocError> {
-    match world {
-        Ok(world) => check_bytes(console, setting, paths, (component, world.as_slice())),
-        Err(error) => Ok(fail(console, setting.0, paths.1, error)),
+    match document {
+        Ok(document) => check_bytes(console, setting, request, component, document.as_slice()),
+        Err(error) => Ok(fail(console, setting, request.document, error)),
     }
 }
 
@@ -126,62 +137,72 @@ fn fail<O: Write + Drop, E: Write + Drop>(
     outcome.status(Action::Check)
 }
 
-/// Compares the component that the first bytes are with the world of the document that the second are.
+/// Compares the component that bytes are with the world of the document that other bytes are.
 fn check_bytes<O: Write + Drop, E: Write + Drop>(
     console: &mut Console<O, E>,
-    setting: (Setting<'_>, Option<&str>),
-    paths: (&str, &str),
-    bytes: (&[u8], &[u8]),
+    setting: Setting<'_>,
+    request: TargetRequest<'_>,
+    component: &[u8],
+    document: &[u8],
 ) -> Result<Status, AllocError> {
-    match component_package(setting.0.alloc, bytes.0, None) {
+    match component_package(setting.alloc, component, None) {
         Ok(Converted::Package(component)) => {
-            check_component(console, setting, paths, &component, bytes.1)
+            check_component(console, setting, request, &component, document)
         }
         Ok(Converted::Rejected(diagnostic)) => {
-            let file = SourceFile {
-                path: paths.0,
-                text: b"",
-            };
-            reject(console, setting.0, &file, &diagnostic)?;
-            let world = SourceFile {
-                path: paths.1,
-                text: bytes.1,
-            };
-            reject_world(console, setting, &world)
+            reject_component(console, setting, request, &diagnostic)?;
+            reject_world(console, setting, request, document)
         }
         Err(_) => Err(AllocError),
     }
 }
 
+/// Reports what is wrong with the component.
+fn reject_component<O: Write + Drop, E: Write + Drop>(
+    console: &mut Console<O, E>,
+    setting: Setting<'_>,
+    request: TargetRequest<'_>,
+    diagnostic: &Diagnostic,
+) -> Result<Status, AllocError> {
+    let file = SourceFile {
+        path: request.component,
+        text: b"",
+    };
+    reject(console, setting, &file, diagnostic)
+}
+
+/// Reports what is wrong with the document of bytes.
+fn reject_document<O: Write + Drop, E: Write + Drop>(
+    console: &mut Console<O, E>,
+    setting: Setting<'_>,
+    request: TargetRequest<'_>,
+    bytes: &[u8],
+    diagnostic: &Diagnostic,
+) -> Result<Status, AllocError> {
+    let file = SourceFile {
+        path: request.document,
+        text: bytes,
+    };
+    reject(console, setting, &file, diagnostic)
+}
+
 /// Compares a component with the world of the document that bytes are.
 fn check_component<O: Write + Drop, E: Write + Drop>(
     console: &mut Console<O, E>,
-    setting: (Setting<'_>, Option<&str>),
-    paths: (&str, &str),
+    setting: Setting<'_>,
+    request: TargetRequest<'_>,
     component: &Package,
     bytes: &[u8],
 ) -> Result<Status, AllocError> {
-    match wanted_world(setting.0, bytes, setting.1) {
+    match wanted_world(setting, bytes, request.world) {
         Ok(Wanted::World(expected, name)) => {
-            let misfit = misfit_of(setting.0.alloc, component, &expected, name.as_str())?;
+            let misfit = misfit_of(setting.alloc, component, &expected, name.as_str())?;
             match misfit {
                 None => Ok(Status::Well),
-                Some(found) => {
-                    let file = SourceFile {
-                        path: paths.0,
-                        text: b"",
-                    };
-                    reject(console, setting.0, &file, &found)
-                }
+                Some(found) => reject_component(console, setting, request, &found),
             }
         }
-        Ok(Wanted::Rejected(found)) => {
-            let file = SourceFile {
-                path: paths.1,
-                text: bytes,
-            };
-            reject(console, setting.0, &file, &found)
-        }
+        Ok(Wanted::Rejected(found)) => { reject_document(console, setting, request, bytes, &found) }
         Ok(Wanted::Unresolved) => Ok(Status::Wrong),
         Err(_) => Err(AllocError),
     }
@@ -190,11 +211,12 @@ fn check_component<O: Write + Drop, E: Write + Drop>(
 /// Reports what is wrong with the document of a world, where the component is wrong too.
 fn reject_world<O: Write + Drop, E: Write + Drop>(
     console: &mut Console<O, E>,
-    setting: (Setting<'_>, Option<&str>),
-    file: &SourceFile<'_>,
+    setting: Setting<'_>,
+    request: TargetRequest<'_>,
+    bytes: &[u8],
 ) -> Result<Status, AllocError> {
-    match wanted_world(setting.0, file.text, setting.1) {
-        Ok(Wanted::Rejected(diagnostic)) => reject(console, setting.0, file, &diagnostic),
+    match wanted_world(setting, bytes, request.world) {
+        Ok(Wanted::Rejected(found)) => reject_document(console, setting, request, bytes, &found),
         Ok(Wanted::World(_, _)) | Ok(Wanted::Unresolved) => Ok(Status::Wrong),
         Err(_) => Err(AllocError),
     }

@@ -6,8 +6,8 @@ use std::test::Fail;
 use wac_cli::check_paths;
 use wac_cli_console::{Console, Report, Status};
 use wac_cli_packages::{
-    Form, Given, PackageForm, check_target, check_with_packages, list_packages, show_graph,
-    show_graph_with_packages, show_package,
+    Form, Given, GraphRequest, PackageForm, PackageRequest, TargetRequest, check_target,
+    check_with_packages, list_packages, show_graph, show_graph_with_packages, show_package,
 };
 use wac_files::MemoryFiles;
 
@@ -131,15 +131,28 @@ fn run_with<O: Write + Drop, E: Write + Drop>(
         }
         Command::Graph => show_graph(alloc, files, console, Form::Text, "plain.wac"),
         Command::GraphWithPackages => {
-            show_graph_with_packages(alloc, files, console, (given(), Form::Text), "app.wac")
+            let request = GraphRequest {
+                path: "app.wac",
+                form: Form::Text,
+            };
+            show_graph_with_packages(alloc, files, console, given(), request)
         }
         Command::Packages => list_packages(alloc, files, console, given(), "app.wac"),
         Command::Package => {
-            show_package(alloc, files, console, (None, PackageForm::Wac), "app.wasm")
+            let request = PackageRequest {
+                path: "app.wasm",
+                name: None,
+                form: PackageForm::Wac,
+            };
+            show_package(alloc, files, console, request)
         }
         Command::Targets => {
-            let paths = ("app.wasm", "world.wac");
-            check_target(alloc, files, console, (given(), None), paths)
+            let request = TargetRequest {
+                component: "app.wasm",
+                document: "world.wac",
+                world: None,
+            };
+            check_target(alloc, files, console, given(), request)
         }
     }
 }

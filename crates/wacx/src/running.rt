@@ -8,8 +8,8 @@ use std::{env, process};
 use wac_cli::{check_input, check_paths, format_input, format_paths};
 use wac_cli_console::{Console, Report, Status};
 use wac_cli_packages::{
-    Given, check_target, check_with_packages, list_packages, show_graph, show_graph_with_packages,
-    show_package,
+    Given, GraphRequest, PackageRequest, TargetRequest, check_target, check_with_packages,
+    list_packages, show_graph, show_graph_with_packages, show_package,
 };
 use wac_files::Disk;
 
@@ -69,17 +69,26 @@ fn perform_on_files(rt: &HostRuntime, task: &Task<'_>) -> Status {
             show_graph(rt.alloc(), &mut files, &mut console, form, first)
         }
         Work::Graph(form) => {
-            let given = (given_of(task, Report::Human), form);
-            show_graph_with_packages(rt.alloc(), &mut files, &mut console, given, first)
+            let given = given_of(task, Report::Human);
+            let request = GraphRequest { path: first, form };
+            show_graph_with_packages(rt.alloc(), &mut files, &mut console, given, request)
         }
         Work::Package(form) => {
-            let asked = (task.key, form);
-            show_package(rt.alloc(), &mut files, &mut console, asked, first)
+            let request = PackageRequest {
+                path: first,
+                name: task.key,
+                form,
+            };
+            show_package(rt.alloc(), &mut files, &mut console, request)
         }
         Work::Targets(report) => {
-            let given = (given_of(task, report), task.world);
-            let paths = (first, path_at(paths, 1));
-            check_target(rt.alloc(), &mut files, &mut console, given, paths)
+            let request = TargetRequest {
+                component: first,
+                document: path_at(paths, 1),
+                world: task.world,
+            };
+            let given = given_of(task, report);
+            check_target(rt.alloc(), &mut files, &mut console, given, request)
         }
     }
 }
