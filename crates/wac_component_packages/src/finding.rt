@@ -19,6 +19,13 @@ struct Entry {
     path: String,
 }
 
+/// The two folders that name a package.
+#[derive(Clone, Copy)]
+struct PackageFolders<'f> {
+    namespace: &'f str,
+    name: &'f str,
+}
+
 /// The components below a folder, in the order of their names: `namespace/name.wasm` is that of the package
 /// `namespace:name`, and `namespace/name/VERSION.wasm` that of `namespace:name@VERSION`. Other files are left out, and so
 /// are names that begin with a dot, and folders that can't be listed.
@@ -83,19 +90,22 @@ fn add_versions<F: FileSystem>(
     ensures { F.replaced files.new ≡ F.replaced files.old }
 {
     let entries = entries_of(alloc, files, name.path.as_str())?;
-    let package = (namespace.name.as_str(), name.name.as_str());
+    let package = PackageFolders {
+        namespace: namespace.name.as_str(),
+        name: name.name.as_str(),
+    };
     for entry in entries.as_slice() {
         add_version(alloc, files, found, package, entry)?;
     }
     Ok(())
 }
 
-/// Adds the component that a file is, where its name is a version of the package of this namespace and name.
+/// Adds the component that a file is, where its name is a version of the package that these folders name.
 fn add_version<F: FileSystem>(
     alloc: Global,
     files: &mut F,
     found: &mut Vec<ComponentFile>,
-    package: (&str, &str),
+    package: PackageFolders<'_>,
     entry: &Entry,
 ) -> Result<(), AllocError>
     ensures { F.replaced files.new ≡ F.replaced files.old }
@@ -103,7 +113,7 @@ fn add_version<F: FileSystem>(
     match stem_of(entry.name.as_str()) {
         None => Ok(()),
         version => {
-            let key = key_of(alloc, package.0, package.1, version)?;
+            let key = key_of(alloc, package.namespace, package.name, version)?;
             add(alloc, files, found, entry, key)
         }
     }

@@ -116,7 +116,7 @@ impl Supplied<'_> {
             return Ok(Some(declared(alloc, key, name)?));
         }
         match self.packages.get(&decoded.key) {
-            Some(package) => disagreement(alloc, key, name, (&decoded.package, package)),
+            Some(package) => disagreement(alloc, key, name, &decoded.package, package),
             // The document has an error, and is reported for that.
             None => Ok(None),
         }
@@ -150,9 +150,10 @@ fn disagreement(
     alloc: Global,
     key: &str,
     name: &str,
-    packages: (&Package, &Package),
+    decoded: &Package,
+    declared: &Package,
 ) -> Result<Option<Diagnostic>, AllocError> {
-    let place = match difference(alloc, packages.0, packages.1) {
+    let place = match difference(alloc, decoded, declared) {
         Ok(None) => return Ok(None),
         Ok(Some(place)) => place,
         Err(PackageError::Memory(_)) => return Err(AllocError),

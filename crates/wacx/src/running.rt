@@ -8,8 +8,8 @@ use std::{env, process};
 use wac_cli::{check_input, check_paths, format_input, format_paths};
 use wac_cli_console::{Console, Report, Status};
 use wac_cli_packages::{
-    Given, GraphRequest, PackageRequest, TargetRequest, check_target, check_with_packages,
-    list_packages, show_graph, show_graph_with_packages, show_package,
+    Given, GraphRequest, PackageForm, PackageRequest, TargetRequest, check_target,
+    check_with_packages, list_packages, show_graph, show_graph_with_packages, show_package,
 };
 use wac_files::Disk;
 
@@ -74,20 +74,12 @@ fn perform_on_files(rt: &HostRuntime, task: &Task<'_>) -> Status {
             show_graph_with_packages(rt.alloc(), &mut files, &mut console, given, request)
         }
         Work::Package(form) => {
-            let request = PackageRequest {
-                path: first,
-                name: task.key,
-                form,
-            };
+            let request = package_request(task, form);
             show_package(rt.alloc(), &mut files, &mut console, request)
         }
         Work::Targets(report) => {
-            let request = TargetRequest {
-                component: first,
-                document: path_at(paths, 1),
-                world: task.world,
-            };
             let given = given_of(task, report);
+            let request = target_request(task);
             check_target(rt.alloc(), &mut files, &mut console, given, request)
         }
     }
@@ -101,6 +93,25 @@ fn given_of<'t>(task: &'t Task<'_>, report: Report) -> Given<'t> {
         may_agree: task.may_agree,
         worlds: task.worlds.as_slice(),
         report,
+    }
+}
+
+/// The component whose package a task shows.
+fn package_request<'t>(task: &Task<'t>, form: PackageForm) -> PackageRequest<'t> {
+    PackageRequest {
+        path: path_at(task.paths.as_slice(), 0),
+        name: task.key,
+        form,
+    }
+}
+
+/// The component that a task compares with a world.
+fn target_request<'t>(task: &Task<'t>) -> TargetRequest<'t> {
+    let paths = task.paths.as_slice();
+    TargetRequest {
+        component: path_at(paths, 0),
+        document: path_at(paths, 1),
+        world: task.world,
     }
 }
 
