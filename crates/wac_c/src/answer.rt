@@ -37,7 +37,7 @@ fn place_of(place: Option<SourceSpan>) -> (u8, usize, usize)
 }
 
 /// An answer as C has it.
-pub(crate) fn told(answer: Answer) -> WacAnswer
+pub(crate) fn c_answer(answer: Answer) -> WacAnswer
     ensures { Tells answer result }
 {
     let (has_place, offset, length) = place_of(answer.place);

@@ -2,7 +2,7 @@
 ghost use Rattle.std.specs.Prelude.{◌≡◌};
 ghost use Rattle.wac_c.specs.Told.{limit_of, Graphs, Runs};
 
-use crate::answer::{WacAnswer, told, unknown};
+use crate::answer::{WacAnswer, c_answer, unknown};
 use std::alloc::Global;
 use wac_calls::{Composition, DEFAULT_LIMIT, Task, call, graph, word_of};
 
@@ -31,7 +31,7 @@ pub extern "C" fn wac_run(
     match word_of(word) {
         Some(word) => {
             let limit = limit_of(limit);
-            *answer = told(call(alloc, Task { word, limit }, text, out, message));
+            *answer = c_answer(call(alloc, Task { word, limit }, text, out, message));
         }
         None => *answer = unknown(),
     }
@@ -52,5 +52,5 @@ pub extern "C" fn wac_graph(
     ensures { Graphs limit text.now packages.now answer.new out.old out.new message.old message.new }
 {
     let composition = Composition { text, packages };
-    *answer = told(graph(alloc, limit_of(limit), composition, out, message));
+    *answer = c_answer(graph(alloc, limit_of(limit), composition, out, message));
 }

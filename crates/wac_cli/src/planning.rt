@@ -39,16 +39,16 @@ impl Plan {
         requires { IsText text.now }
         ensures { IfOk result (λ plan. IsPlan options text.now plan) }
     {
-        match tidy_as_asked(alloc, text, options) {
+        match tidy_with(alloc, text, options) {
             Ok(tidy_text) if tidy_text.as_str() == text => Ok(Plan::Tidy),
             Ok(tidy_text) => Ok(Plan::Untidy(tidy_text)),
-            Err(error) => Ok(Plan::Rejected(told(alloc, &error)?)),
+            Err(error) => Ok(Plan::Rejected(rejection_of(alloc, &error)?)),
         }
     }
 }
 
 /// The tidy text of a text, laid out as asked.
-fn tidy_as_asked(alloc: Global, text: &str, options: FormatOptions) -> Result<String, TidyError>
+fn tidy_with(alloc: Global, text: &str, options: FormatOptions) -> Result<String, TidyError>
     ensures tidied { IfOk result (λ tidied. IsTidiedAs options text.now (string_bytes tidied)) }
     ensures only { IfErr result (λ e. IsErrorOf text.now e) }
 {
@@ -60,7 +60,7 @@ fn tidy_as_asked(alloc: Global, text: &str, options: FormatOptions) -> Result<St
 }
 
 /// What is said of a text that could not be tidied, unless memory ran out.
-fn told(alloc: Global, error: &TidyError) -> Result<Diagnostic, AllocError>
+fn rejection_of(alloc: Global, error: &TidyError) -> Result<Diagnostic, AllocError>
     ensures { IfOk result (λ _. is_memory error.now ≡ false) }
 {
     if is_memory(error) {

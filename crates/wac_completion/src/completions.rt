@@ -102,7 +102,7 @@ fn no_completions(alloc: Global, start: usize) -> Completions {
 }
 
 /// The names, keywords and symbols that can stand behind a text and begin with a word.
-fn completions_behind(
+fn completions_after(
     alloc: Global,
     source: &str,
     text: &str,
@@ -132,7 +132,7 @@ pub fn completions_at(
     offset: usize,
 ) -> Result<Completions, AllocError> {
     match before(source, offset) {
-        Some((text, word)) => completions_behind(alloc, source, text, word),
+        Some((text, word)) => completions_after(alloc, source, text, word),
         None => Ok(no_completions(alloc, offset)),
     }
 }

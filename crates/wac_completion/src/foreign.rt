@@ -357,7 +357,7 @@ fn within(brace: Brace<'_>) -> Option<Foreign<'_>> {
 }
 
 /// What of a foreign package can stand behind what was read.
-pub(crate) fn foreign_behind<'t>(
+pub(crate) fn foreign_after<'t>(
     alloc: Global,
     reader: Reader<'t>,
 ) -> Result<Option<Foreign<'t>>, AllocError> {
@@ -402,7 +402,7 @@ fn open_quote(text: &str) -> Option<usize> {
 }
 
 /// What is asked for behind a text where a token of a kind can stand, by the text's tokens.
-fn asked_behind<'t>(
+fn foreign_at_end<'t>(
     alloc: Global,
     text: &'t str,
     kind: Token,
@@ -410,7 +410,7 @@ fn asked_behind<'t>(
     if !takes(alloc, text, kind)? {
         return Ok(None);
     }
-    foreign_behind(alloc, read(alloc, text)?)
+    foreign_after(alloc, read(alloc, text)?)
 }
 
 /// What is asked for, with where the quote is.
@@ -465,8 +465,8 @@ pub fn foreign_at<'t>(
     match open_quote(text) {
         Some(at) => {
             let front = text.get(..at).unwrap_or("");
-            with_quote(asked_behind(alloc, front, Token::String), Some(at))
+            with_quote(foreign_at_end(alloc, front, Token::String), Some(at))
         }
-        None => with_quote(asked_behind(alloc, text, Token::Ident), None),
+        None => with_quote(foreign_at_end(alloc, text, Token::Ident), None),
     }
 }

@@ -1,6 +1,6 @@
 //! Names of foreign packages in a text.
 
-use crate::foreign::{Foreign, Lexeme, Reader, foreign_behind, unquoted};
+use crate::foreign::{Foreign, Lexeme, Reader, foreign_after, unquoted};
 use crate::names::text_of;
 use std::alloc::{AllocError, Global};
 use wac_ast_base::at;
@@ -30,7 +30,7 @@ fn named<'t>(
     has_colon: bool,
 ) -> Result<Option<ForeignName<'t>>, AllocError> {
     let is_local = lexeme.token == Token::Ident && !has_colon;
-    match foreign_behind(alloc, reader) {
+    match foreign_after(alloc, reader) {
         Ok(Some(Foreign::Argument { .. })) if is_local => Ok(None),
         Ok(Some(foreign)) => Ok(Some(ForeignName {
             name: unquoted(lexeme.text),

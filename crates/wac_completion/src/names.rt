@@ -167,7 +167,7 @@ fn no_names(alloc: Global) -> Result<Found, AllocError> {
 }
 
 /// The names that begin with a word and can stand behind a text, where an identifier can.
-fn names_behind(alloc: Global, text: &str, word: &str) -> Result<Found, AllocError> {
+fn names_at_end(alloc: Global, text: &str, word: &str) -> Result<Found, AllocError> {
     let Some(closed) = close(alloc, text)? else {
         return no_names(alloc);
     };
@@ -207,7 +207,7 @@ pub(crate) fn names_after(
 {
     let text = recovered.text();
     let found = if can_follow(alloc, text, Token::Ident)? {
-        names_behind(alloc, text, word)?
+        names_at_end(alloc, text, word)?
     } else {
         no_names(alloc)?
     };

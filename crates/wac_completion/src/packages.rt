@@ -76,7 +76,7 @@ fn word_in<'t>(
 }
 
 /// The name or the path that can stand behind a text.
-fn word_behind<'t>(
+fn word_after<'t>(
     alloc: Global,
     text: &str,
     written: &'t str,
@@ -88,7 +88,7 @@ fn word_behind<'t>(
 }
 
 /// The name or the path that can stand behind the first colon of what is written, with no blank between them.
-fn word_behind_colon<'t>(
+fn word_after_colon<'t>(
     alloc: Global,
     front: &'t str,
     written: &'t str,
@@ -96,7 +96,7 @@ fn word_behind_colon<'t>(
     match written.split_once(':') {
         Some((_, rest)) => {
             let text = front.strip_suffix(rest).unwrap_or(front);
-            word_behind(alloc, text, rest)
+            word_after(alloc, text, rest)
         }
         None => Ok(None),
     }
@@ -124,9 +124,9 @@ pub fn package_at<'t>(
     let Some((text, written)) = before(source, offset) else {
         return Ok(None);
     };
-    match word_behind(alloc, text, written) {
+    match word_after(alloc, text, written) {
         Ok(Some(word)) => Ok(Some(word)),
-        Ok(None) => word_behind_colon(alloc, source.get(..offset).unwrap_or(""), written),
+        Ok(None) => word_after_colon(alloc, source.get(..offset).unwrap_or(""), written),
         Err(error) => Err(error),
     }
 }

@@ -83,17 +83,17 @@ fn compared(
     match role {
         Role::Components => {
             let given = ItemKind::Component(given);
-            told(alloc, &graph, given, ItemKind::Component(expected))
+            mismatch_text(alloc, &graph, given, ItemKind::Component(expected))
         }
         Role::Types => {
             let given = ItemKind::Ty(Type::World(given));
-            told(alloc, &graph, given, ItemKind::Ty(Type::World(expected)))
+            mismatch_text(alloc, &graph, given, ItemKind::Ty(Type::World(expected)))
         }
     }
 }
 
 /// Where a kind of a graph differs first from another one, in words.
-fn told(
+fn mismatch_text(
     alloc: Global,
     graph: &CompositionGraph,
     given: ItemKind,

@@ -82,7 +82,7 @@ struct Replaced<'v, 'a> {
 
 /// What is put behind a text: a blank comes first behind a colon, which would make it the name of a package otherwise,
 /// together with the word before.
-fn put_behind(alloc: Global, front: &str, text: &str) -> Result<String, AllocError> {
+fn insertion_after(alloc: Global, front: &str, text: &str) -> Result<String, AllocError> {
     if front.ends_with(':') {
         return format!(in alloc; " {text}");
     }
@@ -99,7 +99,7 @@ impl Replaced<'_, '_> {
     /// beginning on, so that no colon is before it.
     fn edit(&self, alloc: Global, start: usize, text: &str) -> Result<Value, AllocError> {
         let range = self.view.range(alloc, start, self.end)?;
-        let put = put_behind(alloc, self.text.get(..start).unwrap_or(""), text)?;
+        let put = insertion_after(alloc, self.text.get(..start).unwrap_or(""), text)?;
         let new = put.as_str();
         json!(in alloc; {"range": range, "newText": new})
     }

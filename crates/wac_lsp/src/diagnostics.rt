@@ -221,7 +221,7 @@ pub(crate) struct Publication {
 }
 
 /// The errors of a text, as a notification.
-fn told_of(
+fn publication_of(
     alloc: Global,
     about: &Subject<'_>,
     found: &[Finding],
@@ -233,7 +233,10 @@ fn told_of(
 }
 
 /// What is wrong with a document: with its text, unless a change of it was lost.
-pub(crate) fn told(alloc: Global, about: &Subject<'_>) -> Result<Publication, AllocError> {
+pub(crate) fn current_publication(
+    alloc: Global,
+    about: &Subject<'_>,
+) -> Result<Publication, AllocError> {
     if about.version.is_none() {
         return Ok(Publication {
             body: published_lost(alloc, about.uri)?,
@@ -241,14 +244,14 @@ pub(crate) fn told(alloc: Global, about: &Subject<'_>) -> Result<Publication, Al
         });
     }
     match errors(alloc, about.text) {
-        Ok(found) => told_of(alloc, about, found.as_slice()),
+        Ok(found) => publication_of(alloc, about, found.as_slice()),
         Err(_) => Err(AllocError),
     }
 }
 
 /// What is wrong with a document, as a notification.
 pub(crate) fn published(alloc: Global, about: &Subject<'_>) -> Result<String, AllocError> {
-    let Publication { body, .. } = told(alloc, about)?;
+    let Publication { body, .. } = current_publication(alloc, about)?;
     Ok(body)
 }
 

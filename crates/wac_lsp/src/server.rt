@@ -8,7 +8,7 @@ ghost use Rattle.wac_lsp.specs.Steps.{Steps};
 ghost use Rattle.wac_lsp.specs.declared.server.Sent.TheVariants.{Reply};
 
 use crate::capabilities::capabilities;
-use crate::diagnostics::{Publication, published, told, withdrawn};
+use crate::diagnostics::{Publication, current_publication, published, withdrawn};
 use crate::documents::{Document, close, document_of, put, text_of};
 use crate::questions::{Answered, Subject, answer_question};
 use crate::symbols::{SavedText, workspace_symbols};
@@ -355,7 +355,7 @@ impl Server {
             text,
             is_faulty: false,
         };
-        let Publication { body, is_faulty } = told(alloc, &self.about(&document))?;
+        let Publication { body, is_faulty } = current_publication(alloc, &self.about(&document))?;
         document.is_faulty = is_faulty;
         put(&mut self.documents, document)?;
         Ok(body)
@@ -427,7 +427,7 @@ impl Server {
     }
 
     /// What the server does after a notification while it runs.
-    fn noticed(&mut self, alloc: Global, notice: Notice) -> Result<Outcome, ChangeError>
+    fn after_notification(&mut self, alloc: Global, notice: Notice) -> Result<Outcome, ChangeError>
         ensures ids { IfOk result (λ outcome. replies outcome.messages.items ≡ []) }
         ensures written { IfOk result (λ outcome. AreReplies outcome.messages.items) }
         ensures leaves { IfOk result (λ _.
@@ -444,12 +444,12 @@ impl Server {
                 changes,
             } => {
                 let version = self.version_after(uri.as_str(), version, changes.as_slice());
-                let told = self.changed(alloc, uri, version, changes.as_slice())?;
-                Ok(sends_told(alloc, told)?)
+                let body = self.changed(alloc, uri, version, changes.as_slice())?;
+                Ok(sends_if_any(alloc, body)?)
             }
             Notice::Lost { uri } => {
-                let told = self.changed(alloc, uri, None, &[])?;
-                Ok(sends_told(alloc, told)?)
+                let body = self.changed(alloc, uri, None, &[])?;
+                Ok(sends_if_any(alloc, body)?)
             }
             Notice::Closed { uri } => {
                 close(&mut self.documents, uri.as_str());
@@ -494,12 +494,12 @@ fn sends_notification(alloc: Global, body: String) -> Result<Outcome, AllocError
     })
 }
 
-/// An outcome in which what is told is sent as a notification, and the server goes on.
-fn sends_told(alloc: Global, told: Option<String>) -> Result<Outcome, AllocError>
+/// An outcome in which the body, if there is one, is sent as a notification, and the server goes on.
+fn sends_if_any(alloc: Global, body: Option<String>) -> Result<Outcome, AllocError>
     ensures ids { IfOk result (λ outcome. replies outcome.messages.items ≡ []) }
     ensures written { IfOk result (λ outcome. AreReplies outcome.messages.items) }
 {
-    match told {
+    match body {
         Some(body) => sends_notification(alloc, body),
         None => Ok(sends_nothing(alloc, None)),
     }
@@ -533,7 +533,7 @@ fn answer_notice(alloc: Global, server: &mut Server, notice: Notice) -> Result<O
     let ends = is_exit(&notice);
     match phase {
         Phase::New => Ok(sends_nothing(alloc, if ends { Some(1) } else { None })),
-        Phase::Running => server.noticed(alloc, notice),
+        Phase::Running => server.after_notification(alloc, notice),
         Phase::ShutDown => Ok(sends_nothing(alloc, if ends { Some(0) } else { None })),
     }
 }

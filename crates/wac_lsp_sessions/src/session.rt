@@ -200,7 +200,7 @@ impl Session {
         ensures holds { IfOk result (λ _. ServerHolds self.old.server self.new.server message) }
     {
         match message {
-            Message::Notification(notice) => self.noticed(alloc, notice),
+            Message::Notification(notice) => self.after_notification(alloc, notice),
             Message::Request { id, call } => self.requested(alloc, id, call),
             other => Ok(stays(answer(alloc, &mut self.server, other)?)),
         }
@@ -209,7 +209,7 @@ impl Session {
     /// What a question gets about where something is declared, what is said of it, what can stand at a place, or what mends
     /// a range, if a package of the folders has the answer.
     #[tactic(auto, using(wac_lsp::proofs::Open::about_asked))]
-    fn asked_about(
+    fn answer_about(
         &self,
         alloc: Global,
         uri: &str,
@@ -239,12 +239,12 @@ impl Session {
     }
 
     /// What a call gets that asks what the folders have, if they have the answer.
-    fn asked(&self, alloc: Global, call: &Call) -> Result<Option<Value>, AllocError>
+    fn answer_of_folders(&self, alloc: Global, call: &Call) -> Result<Option<Value>, AllocError>
         ensures { IfOk result (λ found. IfSome found (λ value.
             AnswersCall self.now.server.unit self.now.server.documents.items call.now (Ok value))) }
     {
         match call {
-            Call::Document { uri, question } => self.asked_about(alloc, uri.as_str(), question),
+            Call::Document { uri, question } => self.answer_about(alloc, uri.as_str(), question),
             Call::WorkspaceSymbols { query } => Ok(Some(symbols_named(
                 alloc,
                 &self.server,
@@ -268,7 +268,7 @@ impl Session {
             return Ok(None);
         }
         match call {
-            Ok(call) => self.asked(alloc, call),
+            Ok(call) => self.answer_of_folders(alloc, call),
             Err(_) => Ok(None),
         }
     }
@@ -299,7 +299,7 @@ impl Session {
     }
 
     /// What the session does after a notification.
-    fn noticed(&mut self, alloc: Global, notice: Notice) -> Result<Stepped, ChangeError>
+    fn after_notification(&mut self, alloc: Global, notice: Notice) -> Result<Stepped, ChangeError>
         ensures ids { IfOk result (λ stepped. replies stepped.outcome.messages.items ≡ []) }
         ensures written { IfOk result (λ stepped. AreReplies stepped.outcome.messages.items) }
         ensures holds { IfOk result (λ _. ServerHolds self.old.server self.new.server (Notification notice)) }

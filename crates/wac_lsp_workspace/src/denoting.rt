@@ -39,9 +39,9 @@ fn place_in(origin: Origin<'_>) -> Place<'_> {
 
 impl<'n> Level<'n> {
     /// What is behind a name that is written.
-    fn behind(self, package: &'n Package, written: &str) -> Option<Level<'n>> {
+    fn after(self, package: &'n Package, written: &str) -> Option<Level<'n>> {
         let (name, kind) = self.names.get_index(place_of(self.names, written)?)?;
-        let place = self.place.behind(name.as_str());
+        let place = self.place.after(name.as_str());
         let names = exports_of(package, *kind)?;
         Some(Level { place, names })
     }
@@ -64,7 +64,7 @@ impl<'n> Level<'n> {
 }
 
 /// What is behind names that are written, from the instances of an origin on, of which this is the package.
-pub(crate) fn level_behind<'n>(
+pub(crate) fn level_after<'n>(
     package: &'n Package,
     origin: Origin<'n>,
     along: &[&str],
@@ -74,7 +74,7 @@ pub(crate) fn level_behind<'n>(
         names: exports_of(package, instance_of(package, origin)?)?,
     };
     for written in along {
-        level = level.behind(package, written)?;
+        level = level.after(package, written)?;
     }
     Some(level)
 }
@@ -128,5 +128,5 @@ fn export_of<'n>(
     along: &[&str],
     written: &str,
 ) -> Option<Denoted<'n>> {
-    level_behind(package, origin, along)?.denoted(written)
+    level_after(package, origin, along)?.denoted(written)
 }

@@ -29,7 +29,7 @@ fn type_before(text: &str) -> Option<&str> {
 }
 
 /// The keyword of a type behind this text.
-fn keyword_behind(text: &str) -> Option<&'static str> {
+fn keyword_at_end(text: &str) -> Option<&'static str> {
     let text = text.trim_end();
     for keyword in TYPES.as_slice() {
         if text.ends_with(*keyword) {
@@ -65,7 +65,7 @@ fn type_at(text: &str, span: SourceSpan) -> Option<&str> {
     let end = span.offset().saturating_add(span.len());
     match type_before(text.get(end..)?) {
         Some(found) => Some(found),
-        None => keyword_behind(text.get(..span.offset())?),
+        None => keyword_at_end(text.get(..span.offset())?),
     }
 }
 

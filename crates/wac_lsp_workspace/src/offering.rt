@@ -1,5 +1,5 @@
 //! The names of packages that can stand at an offset.
-use crate::denoting::{Level, imports_of, level_behind};
+use crate::denoting::{Level, imports_of, level_after};
 use crate::details::{Declared, detail};
 use crate::named::{named_in, segments_of};
 use crate::places::Place;
@@ -360,7 +360,7 @@ impl Workspace {
         let key = key_of(alloc, origin)?;
         match self.package(&key) {
             Some(package) => {
-                let level = level_behind(package, origin, along);
+                let level = level_after(package, origin, along);
                 self.names_of(alloc, level, named_by(origin), wanted)
             }
             None => Ok(Vec::new(alloc)),

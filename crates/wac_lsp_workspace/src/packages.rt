@@ -27,14 +27,14 @@ struct Listed<'s> {
 }
 
 /// What is behind a folder and a slash in a path.
-pub(crate) fn behind<'p>(folder: &str, path: &'p str) -> Option<&'p str> {
+pub(crate) fn path_below<'p>(folder: &str, path: &'p str) -> Option<&'p str> {
     path.strip_prefix(folder)?.strip_prefix('/')
 }
 
 /// The part of a path below the first folder in which it is; the path, where it is in none.
 fn below<'p>(folders: &[String], path: &'p str) -> &'p str {
     for folder in folders {
-        if let Some(rest) = behind(folder.as_str(), path) {
+        if let Some(rest) = path_below(folder.as_str(), path) {
             return rest;
         }
     }

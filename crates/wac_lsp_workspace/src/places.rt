@@ -1,6 +1,6 @@
 //! Where the names of worlds and interfaces are declared.
 use crate::named::{Named, whole};
-use crate::searching::{declared_at, declared_within, item_behind};
+use crate::searching::{declared_at, declared_within, item_after};
 use std::alloc::{AllocError, Global};
 use wac_graph::PackageKey;
 use wac_lexer::{SourceSpan, Token};
@@ -31,7 +31,7 @@ pub(crate) enum Place<'n> {
 
 impl<'n> Place<'n> {
     /// What has the names that are behind one of these: a path is that of an interface.
-    pub(crate) fn behind(self, name: &'n str) -> Place<'n> {
+    pub(crate) fn after(self, name: &'n str) -> Place<'n> {
         if name.contains('/') {
             return Place::Interface(name);
         }
@@ -58,9 +58,9 @@ impl<'n> Place<'n> {
     /// Where a text of its package declares a name of it: where it has no such name, the place itself.
     pub(crate) fn declares(self, text: &str, name: &str) -> Option<SourceSpan> {
         match self {
-            Place::World { keyword, .. } => item_behind(text, keyword, name),
+            Place::World { keyword, .. } => item_after(text, keyword, name),
             Place::Item { keyword, item, .. } => {
-                let outer = item_behind(text, keyword, item)?;
+                let outer = item_after(text, keyword, item)?;
                 Some(declared_within(text, outer, name).unwrap_or(outer))
             }
             Place::Interface(path) => declared_in(text, path, name),
@@ -71,7 +71,7 @@ impl<'n> Place<'n> {
     pub(crate) fn declared(self, text: &str) -> Option<SourceSpan> {
         match self {
             Place::World { .. } => None,
-            Place::Item { keyword, item, .. } => item_behind(text, keyword, item),
+            Place::Item { keyword, item, .. } => item_after(text, keyword, item),
             Place::Interface(path) => interface_in(text, path),
         }
     }

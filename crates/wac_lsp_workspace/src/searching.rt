@@ -95,7 +95,7 @@ impl<'s> Search<'s> {
 }
 
 /// Where a document has an item of a world of this name: the first one behind a keyword, `import` or `export`.
-pub(crate) fn item_behind(text: &str, keyword: Token, name: &str) -> Option<SourceSpan> {
+pub(crate) fn item_after(text: &str, keyword: Token, name: &str) -> Option<SourceSpan> {
     let Ok(mut lexer) = Lexer::new(accepted(text)) else {
         return None;
     };

@@ -27,7 +27,7 @@ pub(crate) fn declaration_fault(
     for fault in known.declared.faults.as_slice() {
         if fault.text == document {
             let diagnostic = declaration_diagnostic(alloc, text, &fault.error, known)?;
-            return told(alloc, diagnostic);
+            return shown_in_editor(alloc, diagnostic);
         }
     }
     Ok(Vec::new(alloc))
@@ -41,7 +41,7 @@ pub(crate) fn composition_fault(
 ) -> Result<Vec<Diagnostic>, AllocError> {
     match flat_text(alloc, text.as_bytes()) {
         Ok(Reading::Text(text)) => judged(alloc, known, text),
-        Ok(Reading::Rejected(diagnostic)) => told(alloc, diagnostic),
+        Ok(Reading::Rejected(diagnostic)) => shown_in_editor(alloc, diagnostic),
         Err(_) => Err(AllocError),
     }
 }
@@ -55,7 +55,7 @@ fn judged(
     match first_error_with(alloc, text, known) {
         Ok(Composed::Resolved(graph)) => warnings_of(alloc, text, &graph),
         Ok(Composed::Unresolved) => Ok(Vec::new(alloc)),
-        Ok(Composed::Rejected(diagnostic)) => told(alloc, diagnostic),
+        Ok(Composed::Rejected(diagnostic)) => shown_in_editor(alloc, diagnostic),
         Err(_) => Err(AllocError),
     }
 }
@@ -66,7 +66,7 @@ fn asks_for_option(diagnostic: &Diagnostic) -> bool {
 }
 
 /// What an editor shows of a diagnostic. That no world of several is chosen is no error there, since none can be.
-fn told(alloc: Global, diagnostic: Diagnostic) -> Result<Vec<Diagnostic>, AllocError> {
+fn shown_in_editor(alloc: Global, diagnostic: Diagnostic) -> Result<Vec<Diagnostic>, AllocError> {
     let mut all = Vec::new(alloc);
     if !asks_for_option(&diagnostic) {
         all.push(for_editor(alloc, diagnostic)?)?;

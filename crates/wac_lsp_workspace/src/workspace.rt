@@ -1,6 +1,6 @@
 //! The packages of the folders that a client has open.
 use crate::contents::{ComponentPackage, DocumentFile, FolderContents, declaration_in};
-use crate::packages::{Packages, behind};
+use crate::packages::{Packages, path_below};
 use crate::sources::{Opened, Source, place_of, put_closed, put_open};
 use crate::telling::{composition_fault, declaration_fault};
 use indexmap::IndexMap;
@@ -70,7 +70,7 @@ fn add_all_open(
 /// Whether a path is in one of some folders.
 fn is_within(folders: &[String], path: &str) -> bool {
     for folder in folders {
-        if behind(folder.as_str(), path).is_some() {
+        if path_below(folder.as_str(), path).is_some() {
             return true;
         }
     }

@@ -66,7 +66,7 @@ fn last_graph(
 }
 
 /// The graph of the statements up to that of a place.
-pub(crate) fn graph_behind(
+pub(crate) fn graph_after(
     alloc: Global,
     context: Context<'_>,
     place: SourceSpan,

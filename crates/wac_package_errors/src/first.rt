@@ -178,7 +178,7 @@ fn rejected_rule(
     context: Context<'_>,
     error: &Error,
 ) -> Result<Composed, AllocError> {
-    Ok(Composed::Rejected(told(alloc, context, error)?))
+    Ok(Composed::Rejected(diagnostic_with_help(alloc, context, error)?))
 }
 
 /// Whether an error is that of a statement before a place, or no memory. The target is looked at last.
@@ -194,7 +194,11 @@ fn is_before(context: Context<'_>, error: &Error, place: SourceSpan) -> bool {
 }
 
 /// What is said of an error of resolving with packages.
-fn told(alloc: Global, context: Context<'_>, error: &Error) -> Result<Diagnostic, AllocError> {
+fn diagnostic_with_help(
+    alloc: Global,
+    context: Context<'_>,
+    error: &Error,
+) -> Result<Diagnostic, AllocError> {
     let mut diagnostic = resolution_diagnostic(alloc, error)?;
     if diagnostic.help.is_none() {
         diagnostic.help = help_with(alloc, error, context)?;

@@ -3,7 +3,7 @@ ghost use Rattle.std.specs.Prelude.{◌<◌, length};
 ghost use Rattle.wac_graph_types.specs.Table.{Names};
 
 use crate::context::Context;
-use crate::earlier::graph_behind;
+use crate::earlier::graph_after;
 use std::alloc::{AllocError, Global};
 use wac_component_rules::{Mismatch, mismatch};
 use wac_graph::{CompositionGraph, ItemKind, NodeId, Type};
@@ -16,7 +16,7 @@ pub(crate) fn argument_help(
     name: &str,
     place: SourceSpan,
 ) -> Result<Option<String>, AllocError> {
-    match graph_behind(alloc, context, place)? {
+    match graph_after(alloc, context, place)? {
         None => Ok(None),
         Some(graph) => first_mismatch(alloc, &graph, name),
     }
@@ -69,13 +69,17 @@ pub(crate) fn compared(
 {
     match mismatch(alloc, graph.types(), given, expected) {
         Ok(None) => Ok(None),
-        Ok(Some(found)) => Ok(Some(told(alloc, given, &found)?)),
+        Ok(Some(found)) => Ok(Some(mismatch_text(alloc, given, &found)?)),
         Err(_) => Err(AllocError),
     }
 }
 
 /// Where a kind differs from one that is expected.
-fn told(alloc: Global, given: ItemKind, found: &Mismatch<'_>) -> Result<String, AllocError> {
+fn mismatch_text(
+    alloc: Global,
+    given: ItemKind,
+    found: &Mismatch<'_>,
+) -> Result<String, AllocError> {
     match given {
         ItemKind::Ty(Type::Interface(_)) => format!(in alloc;
             "{found}: an interface is a type, so import it, as in `import x: i;`, and give `x`"

@@ -1,6 +1,6 @@
 //! Names that are used above their declarations.
 
-use crate::texts::text_behind;
+use crate::texts::text_after;
 use wac_lexer::SourceSpan;
 
 /// Whether a text ends with a keyword after which a declared name comes.
@@ -34,7 +34,7 @@ fn declares(text: &str, name: &str) -> bool {
 
 /// That a name at a place is declared further down, if it is.
 pub(crate) fn order_help(text: &str, name: &str, place: SourceSpan) -> Option<&'static str> {
-    if declares(text_behind(text, place), name) {
+    if declares(text_after(text, place), name) {
         Some("it is declared further down: WAC knows a name only below its declaration, unlike WIT")
     } else {
         None

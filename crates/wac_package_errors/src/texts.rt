@@ -13,6 +13,6 @@ pub(crate) fn text_at(text: &str, span: SourceSpan) -> &str {
 }
 
 /// The text behind a span.
-pub(crate) fn text_behind(text: &str, span: SourceSpan) -> &str {
+pub(crate) fn text_after(text: &str, span: SourceSpan) -> &str {
     text.get(end_of(span)..).unwrap_or("")
 }

@@ -8,4 +8,4 @@ returns c =
     let answered =
     subst (λ (l : ℕ). Told (ComesToGraph l c.args.text.now c.args.packages.now) c.graph.result c.args.out.now c.graph.new.out c.args.message.now c.graph.new.message)
     c.limit_of.ensures c.graph.ensures in
-    (c.graph.result, answered, c.told.ensures)
+    (c.graph.result, answered, c.c_answer.ensures)

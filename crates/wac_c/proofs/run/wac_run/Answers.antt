@@ -7,7 +7,7 @@ returns-in-Some c =
     let answered =
     subst (λ (l : ℕ). Answered (record { word = c.in-Some.word; limit = l }) c.args.text.now c.call.result c.args.out.now c.call.new.out c.args.message.now c.call.new.message)
     c.limit_of-limit.ensures c.call.ensures in
-    inl (c.in-Some.word, c.call.result, c.in-Some.ensures.numbered, answered, c.told.ensures)
+    inl (c.in-Some.word, c.call.result, c.in-Some.ensures.numbered, answered, c.c_answer.ensures)
 
 pub returns-in-None : goal.returns-in-None
 returns-in-None c = inr (c.in-None.ensures.unnumbered, c.unknown.ensures, refl, refl)

@@ -1,6 +1,6 @@
 use Rattle.wac_cli.proofs.Common.{refl, string_bytes}
 use Rattle.wac_cli.proofs.Tidied.{tidied}
-use Rattle.wac_cli.proofs.planning.tidy_as_asked.Goals as goal
+use Rattle.wac_cli.proofs.planning.tidy_with.Goals as goal
 
 pub returns-clause-tidied : goal.returns-clause-tidied
 returns-clause-tidied c =
