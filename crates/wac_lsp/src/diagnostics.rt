@@ -221,7 +221,7 @@ pub(crate) struct Publication {
 }
 
 /// The errors of a text, as a notification.
-fn publication_of(
+fn publication_of_errors(
     alloc: Global,
     about: &Subject<'_>,
     found: &[Finding],
@@ -244,7 +244,7 @@ pub(crate) fn current_publication(
         });
     }
     match errors(alloc, about.text) {
-        Ok(found) => publication_of(alloc, about, found.as_slice()),
+        Ok(found) => publication_of_errors(alloc, about, found.as_slice()),
         Err(_) => Err(AllocError),
     }
 }
