@@ -69,71 +69,71 @@ pub fn find_instantiations(
     statements: Statements<'_, '_>,
 ) -> Result<Instantiations, AllocError> {
     let mut found = Found::new(alloc);
-    let noted = all_statements(statements, &mut found);
+    let noted = all_statements(&mut found, statements);
     found.after(noted)
 }
 
 /// Notes what lent statements have.
-fn all_statements(all: Statements<'_, '_>, found: &mut Found) -> Result<(), AllocError> {
+fn all_statements(found: &mut Found, all: Statements<'_, '_>) -> Result<(), AllocError> {
     let all = all.all;
-    statements(all, found)
+    statements(found, all)
 }
 
 /// Notes what statements have.
-fn statements(statements: &[Statement<'_>], found: &mut Found) -> Result<(), AllocError> {
+fn statements(found: &mut Found, statements: &[Statement<'_>]) -> Result<(), AllocError> {
     for next in statements {
-        statement(next, found)?;
+        statement(found, next)?;
     }
     Ok(())
 }
 
 /// Notes what a statement has.
-fn statement(statement: &Statement<'_>, found: &mut Found) -> Result<(), AllocError> {
+fn statement(found: &mut Found, statement: &Statement<'_>) -> Result<(), AllocError> {
     match statement {
-        Statement::Let(binding) => expression(&binding.expr, found),
-        Statement::Export(export) => expression(&export.expr, found),
+        Statement::Let(binding) => expression(found, &binding.expr),
+        Statement::Export(export) => expression(found, &export.expr),
         Statement::Import(_) | Statement::Ty(_) => Ok(()),
     }
 }
 
 /// Notes what an expression has.
 #[cycle(expression)]
-fn expression(expr: &Expr<'_>, found: &mut Found) -> Result<(), AllocError> {
-    accesses(&expr.postfix, found, expr.span.offset())?;
-    primary(&expr.primary, found)
+fn expression(found: &mut Found, expr: &Expr<'_>) -> Result<(), AllocError> {
+    accesses(found, expr.span.offset(), &expr.postfix)?;
+    primary(found, &expr.primary)
 }
 
 /// Notes what the beginning of an expression has.
 #[cycle(expression)]
-fn primary(expr: &PrimaryExpr<'_>, found: &mut Found) -> Result<(), AllocError> {
+fn primary(found: &mut Found, expr: &PrimaryExpr<'_>) -> Result<(), AllocError> {
     match expr {
-        PrimaryExpr::New(new) => instantiation(new, found),
-        PrimaryExpr::Nested(nested) => expression(&nested.inner, found),
+        PrimaryExpr::New(new) => instantiation(found, new),
+        PrimaryExpr::Nested(nested) => expression(found, &nested.inner),
         PrimaryExpr::Ident(_) => Ok(()),
     }
 }
 
 /// Notes an instantiation, and what its arguments have.
 #[cycle(expression)]
-fn instantiation(new: &NewExpr<'_>, found: &mut Found) -> Result<(), AllocError> {
+fn instantiation(found: &mut Found, new: &NewExpr<'_>) -> Result<(), AllocError> {
     found.instantiation(&new.package, new.span)?;
-    arguments(&new.arguments, found)
+    arguments(found, &new.arguments)
 }
 
 /// Notes what arguments have.
 #[cycle(expression)]
-fn arguments(arguments: &[InstantiationArgument<'_>], found: &mut Found) -> Result<(), AllocError> {
+fn arguments(found: &mut Found, arguments: &[InstantiationArgument<'_>]) -> Result<(), AllocError> {
     for one in arguments {
-        argument(one, found)?;
+        argument(found, one)?;
     }
     Ok(())
 }
 
 /// Notes what an argument has.
 #[cycle(expression)]
-fn argument(argument: &InstantiationArgument<'_>, found: &mut Found) -> Result<(), AllocError> {
+fn argument(found: &mut Found, argument: &InstantiationArgument<'_>) -> Result<(), AllocError> {
     match argument {
-        InstantiationArgument::Named(named) => expression(&named.expr, found),
+        InstantiationArgument::Named(named) => expression(found, &named.expr),
         InstantiationArgument::Inferred(_)
         | InstantiationArgument::Spread(_)
         | InstantiationArgument::Fill(_) => Ok(()),
@@ -151,9 +151,9 @@ fn place_of(postfix: &PostfixExpr<'_>) -> SourceSpan {
 /// Notes accesses of an expression that begins at an offset.
 #[inline(never)]
 fn accesses(
-    postfixes: &[PostfixExpr<'_>],
     found: &mut Found,
     start: usize,
+    postfixes: &[PostfixExpr<'_>],
 ) -> Result<(), AllocError> {
     for postfix in postfixes {
         found.access(start, place_of(postfix))?;

@@ -22,10 +22,10 @@ use wac_resolution_state::State;
 
 /// Takes a variant.
 fn variant<'a>(
-    decl: &VariantDecl<'a>,
     state: &mut State,
     body: &mut Body<'a>,
     section: &Section<'_>,
+    decl: &VariantDecl<'a>,
 ) -> Result<(), Error>
     requires { IsBody state.old.graph.types section.now.side (lists_of body.old) }
     ensures ok { OnOk result (DeclarationStep section.now.side state.old.graph state.new.graph (lists_of body.old)
@@ -42,10 +42,10 @@ fn variant<'a>(
 
 /// Takes a record.
 fn record<'a>(
-    decl: &RecordDecl<'a>,
     state: &mut State,
     body: &mut Body<'a>,
     section: &Section<'_>,
+    decl: &RecordDecl<'a>,
 ) -> Result<(), Error>
     requires { IsBody state.old.graph.types section.now.side (lists_of body.old) }
     ensures ok { OnOk result (DeclarationStep section.now.side state.old.graph state.new.graph (lists_of body.old)
@@ -102,10 +102,10 @@ fn enumeration<'a>(
 
 /// Takes an alias.
 fn alias<'a>(
-    decl: &TypeAlias<'a>,
     state: &mut State,
     body: &mut Body<'a>,
     section: &Section<'_>,
+    decl: &TypeAlias<'a>,
 ) -> Result<(), Error>
     requires { IsBody state.old.graph.types section.now.side (lists_of body.old) }
     ensures ok { OnOk result (DeclarationStep section.now.side state.old.graph state.new.graph (lists_of body.old)
@@ -121,10 +121,10 @@ fn alias<'a>(
 
 /// Takes the declaration of a type.
 pub fn item<'a>(
-    decl: &ItemTypeDecl<'a>,
     state: &mut State,
     body: &mut Body<'a>,
     section: &Section<'_>,
+    decl: &ItemTypeDecl<'a>,
 ) -> Result<(), Error>
     requires { IsBody state.old.graph.types section.now.side (lists_of body.old) }
     ensures ok { OnOk result (DeclarationStep section.now.side state.old.graph state.new.graph (lists_of body.old)
@@ -134,11 +134,11 @@ pub fn item<'a>(
         (body_of naming state.old.graph body.old) (item_type_decl_of decl.now) e) }
 {
     match decl {
-        ItemTypeDecl::Resource(decl) => resource(decl, state, body, section),
-        ItemTypeDecl::Variant(decl) => variant(decl, state, body, section),
-        ItemTypeDecl::Record(decl) => record(decl, state, body, section),
+        ItemTypeDecl::Resource(decl) => resource(state, body, section, decl),
+        ItemTypeDecl::Variant(decl) => variant(state, body, section, decl),
+        ItemTypeDecl::Record(decl) => record(state, body, section, decl),
         ItemTypeDecl::Flags(decl) => flags(state, body, section, decl),
         ItemTypeDecl::Enum(decl) => enumeration(state, body, section, decl),
-        ItemTypeDecl::Alias(decl) => alias(decl, state, body, section),
+        ItemTypeDecl::Alias(decl) => alias(state, body, section, decl),
     }
 }
