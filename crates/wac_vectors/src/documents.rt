@@ -4,7 +4,8 @@
 use crate::rows::{DOCUMENTED, DOCUMENTED_PRINTED, DOCUMENTS};
 use std::alloc::{AllocError, Global};
 use std::test::Fail;
-use wac_parser::{Document, Error, format};
+use wac_lexer::SourceSpan;
+use wac_parser::{Document, Error, InstantiationArgument, format};
 
 /// Where an error lies, and what it says. Where memory ran out, that is the answer.
 fn told(alloc: Global, error: &Error) -> Result<String, AllocError> {
@@ -94,6 +95,17 @@ fn texts_are_parsed(rt: HostRuntime) -> Result<(), Fail> {
         Err(AllocError) => first_not_parsed(rt.alloc())?,
     };
     assert!(rt; wrong.is_none(), "row {wrong:?}");
+    Ok(())
+}
+
+/// A variant of a tree is shown as Rust derives it: its name, and its part in parentheses.
+#[test]
+fn variants_are_shown_with_their_parts(rt: HostRuntime) -> Result<(), Fail> {
+    let dots = SourceSpan::new(3, 3);
+    let fill = InstantiationArgument::Fill(dots);
+    let text = format!(in rt.alloc(); "{fill:?}")?;
+    let wanted = format!(in rt.alloc(); "Fill({dots:?})")?;
+    assert!(rt; text.as_str() == wanted.as_str(), "{text}");
     Ok(())
 }
 
