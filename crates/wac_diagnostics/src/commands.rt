@@ -27,22 +27,39 @@ pub fn github(
     let source = readable(alloc, text)?;
     let lines = Lines::new(alloc, &source)?;
     let mut out = String::from_str(alloc, "::")?;
+    push_command(&mut out, &lines, file, diagnostic)?;
+    Ok(out)
+}
+
+/// Appends what stands behind the first two colons.
+fn push_command(
+    out: &mut String,
+    lines: &Lines<'_>,
+    file: &str,
+    diagnostic: &Diagnostic,
+) -> Result<(), AllocError> {
     out.push_str(diagnostic.severity.word())?;
     out.push_str(" file=")?;
-    push_property(&mut out, file)?;
-    push_place(&mut out, &lines, diagnostic.span)?;
+    push_property(out, file)?;
+    push_place(out, lines, diagnostic.span)?;
     out.push_str(",title=")?;
-    push_property(&mut out, diagnostic.code)?;
+    push_property(out, diagnostic.code)?;
     out.push_str("::")?;
-    push_data(&mut out, &diagnostic.message)?;
+    push_message(out, diagnostic)?;
+    for note in &diagnostic.notes {
+        push_note(out, lines, note)?;
+    }
+    Ok(())
+}
+
+/// Appends the message, and what can be done on a line of its own.
+fn push_message(out: &mut String, diagnostic: &Diagnostic) -> Result<(), AllocError> {
+    push_data(out, &diagnostic.message)?;
     if let Some(help) = &diagnostic.help {
         out.push_str("%0Ahelp: ")?;
-        push_data(&mut out, help)?;
+        push_data(out, help)?;
     }
-    for note in &diagnostic.notes {
-        push_note(&mut out, &lines, note)?;
-    }
-    Ok(out)
+    Ok(())
 }
 
 /// Appends the properties of a place.

@@ -27,21 +27,40 @@ pub fn json(
     let lines = Lines::new(alloc, &source)?;
     let mut out = String::from_str(alloc, "{\"file\":")?;
     push_text(alloc, &mut out, file)?;
-    push_span(&mut out, &lines, diagnostic.span)?;
+    push_fields(alloc, &mut out, &lines, diagnostic)?;
+    Ok(out)
+}
+
+/// Appends what stands behind the name of the file, to the end of the object.
+fn push_fields(
+    alloc: Global,
+    out: &mut String,
+    lines: &Lines<'_>,
+    diagnostic: &Diagnostic,
+) -> Result<(), AllocError> {
+    push_span(out, lines, diagnostic.span)?;
     out.push_str(",\"severity\":")?;
-    push_text(alloc, &mut out, diagnostic.severity.word())?;
+    push_text(alloc, out, diagnostic.severity.word())?;
     out.push_str(",\"code\":")?;
-    push_text(alloc, &mut out, diagnostic.code)?;
+    push_text(alloc, out, diagnostic.code)?;
+    push_message(alloc, out, diagnostic)?;
+    push_notes(alloc, out, lines, &diagnostic.notes)?;
+    out.push('}')
+}
+
+/// Appends the message, and what can be done.
+fn push_message(
+    alloc: Global,
+    out: &mut String,
+    diagnostic: &Diagnostic,
+) -> Result<(), AllocError> {
     out.push_str(",\"message\":")?;
-    push_text(alloc, &mut out, &diagnostic.message)?;
+    push_text(alloc, out, &diagnostic.message)?;
     out.push_str(",\"help\":")?;
     match &diagnostic.help {
-        Some(help) => push_text(alloc, &mut out, help)?,
-        None => out.push_str("null")?,
+        Some(help) => push_text(alloc, out, help),
+        None => out.push_str("null"),
     }
-    push_notes(alloc, &mut out, &lines, &diagnostic.notes)?;
-    out.push('}')?;
-    Ok(out)
 }
 
 /// Appends a text as a JSON string.
