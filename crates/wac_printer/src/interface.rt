@@ -43,6 +43,18 @@ impl Node for InterfaceItem<'_> {
     }
 }
 
+/// Prints the items of an interface, which come first: see `print_items` of worlds.
+#[tactic(auto, using(crate::proofs::Steps::lists))]
+fn interface_items<S: Sink>(
+    items: &[InterfaceItem<'_>],
+    printer: &mut DocumentPrinter<'_, S>,
+) -> PrintResult
+    requires { All (walk_interface_item (printable printer.old.source) any_docs) (map interface_item_of items.now) }
+    ensures { PrintsInterfaceItems printer.old result printer.new (map interface_item_of items.now) }
+{
+    printer.body(items)
+}
+
 #[tactic(auto, using(crate::proofs::Steps::lists))]
 impl<'a, S: Sink> DocumentPrinter<'a, S> {
     /// Prints an interface.
@@ -53,7 +65,7 @@ impl<'a, S: Sink> DocumentPrinter<'a, S> {
     {
         self.docs(&decl.docs)
             .and(self.interface_head(&decl.id))
-            .and(self.interface_items(&decl.items))
+            .and(interface_items(&decl.items, self))
     }
 
     /// Prints an interface that has no name.
@@ -63,14 +75,7 @@ impl<'a, S: Sink> DocumentPrinter<'a, S> {
         ensures { PrintsInlineInterface self.old result self.new (inline_interface_of interface.now) }
     {
         self.interface_keyword()?;
-        self.interface_items(&interface.items)
-    }
-
-    fn interface_items(&mut self, items: &[InterfaceItem<'_>]) -> PrintResult
-        requires { All (walk_interface_item (printable self.old.source) any_docs) (map interface_item_of items.now) }
-        ensures { PrintsInterfaceItems self.old result self.new (map interface_item_of items.now) }
-    {
-        self.body(items)
+        interface_items(&interface.items, self)
     }
 
     fn interface_keyword(&mut self) -> PrintResult

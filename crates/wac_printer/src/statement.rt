@@ -103,6 +103,18 @@ impl<'t, 'a> Statements<'t, 'a> {
     }
 }
 
+/// Prints the statements of a document, which come first: see `print_items`.
+#[tactic(auto, using(crate::proofs::Steps::lists))]
+fn print_statements<S: Sink>(
+    statements: &[Statement<'_>],
+    printer: &mut DocumentPrinter<'_, S>,
+) -> PrintResult
+    requires { All (walk_statement (printable printer.old.source) any_docs) (map statement_of statements.now) }
+    ensures { PrintsStatements printer.old result printer.new (map statement_of statements.now) }
+{
+    printer.spaced(statements)
+}
+
 #[tactic(auto, using(crate::proofs::Steps::lists))]
 impl<'a, S: Sink> DocumentPrinter<'a, S> {
     /// Prints a document.
@@ -127,14 +139,7 @@ impl<'a, S: Sink> DocumentPrinter<'a, S> {
         let statements = Statements { document };
         self.docs(&document.docs)
             .and(self.package_directive(&document.directive))
-            .and(self.statements(statements.all()))
-    }
-
-    fn statements(&mut self, statements: &[Statement<'_>]) -> PrintResult
-        requires { All (walk_statement (printable self.old.source) any_docs) (map statement_of statements.now) }
-        ensures { PrintsStatements self.old result self.new (map statement_of statements.now) }
-    {
-        self.spaced(statements)
+            .and(print_statements(statements.all(), self))
     }
 
     /// Prints the directive that names the package, and an empty line.
