@@ -133,7 +133,7 @@ fn argument<S: Sink>(tree: &InstantiationArgument<'_>, out: &mut Pieces<'_, S>) 
             "\"}}",
             out,
         ),
-        InstantiationArgument::Named(argument) => named(&argument.name, &argument.expr, out),
+        InstantiationArgument::Named(argument) => named(&argument.expr, &argument.name, out),
         InstantiationArgument::Fill(span) => enclosed("{\"fill\":{\"length\":", span, "}}", out),
     }
 }
@@ -141,8 +141,8 @@ fn argument<S: Sink>(tree: &InstantiationArgument<'_>, out: &mut Pieces<'_, S>) 
 /// Writes a named argument.
 #[cycle(expressions)]
 fn named<S: Sink>(
-    name: &InstantiationArgumentName<'_>,
     value: &Expr<'_>,
+    name: &InstantiationArgumentName<'_>,
     out: &mut Pieces<'_, S>,
 ) -> PrintResult
     ensures { Prints out.old result out.new (pieces (named_json (expr_of value.now) (argument_name_of name.now))) }

@@ -61,14 +61,14 @@ pub(crate) fn ty<S: Sink>(tree: &Type<'_>, out: &mut Pieces<'_, S>) -> PrintResu
         Type::Bool(span) => keyword("{\"bool\":{\"length\":", span, out),
         Type::String(span) => keyword("{\"string\":{\"length\":", span, out),
         Type::Tuple(types, span) => tuple(types, span, out),
-        Type::List(held, span) => holding("{\"list\":[", held, span, out),
-        Type::Option(held, span) => holding("{\"option\":[", held, span, out),
+        Type::List(held, span) => holding(held, "{\"list\":[", span, out),
+        Type::Option(held, span) => holding(held, "{\"option\":[", span, out),
         Type::Result { ok, err, span } => failure(err, out)
             .and(success(ok, out))
             .and(result_end(span, out)),
         Type::Borrow(id, span) => borrowed(id, span, out),
-        Type::Stream(held, span) => perhaps_holding("{\"stream\":[", held, span, out),
-        Type::Future(held, span) => perhaps_holding("{\"future\":[", held, span, out),
+        Type::Stream(held, span) => perhaps_holding(held, "{\"stream\":[", span, out),
+        Type::Future(held, span) => perhaps_holding(held, "{\"future\":[", span, out),
         Type::ErrorContext(span) => keyword("{\"errorContext\":{\"length\":", span, out),
         Type::Ident(id) => enclosed("{\"ident\":{\"span\":{\"length\":", id, "\"}}", out),
     }
@@ -77,8 +77,8 @@ pub(crate) fn ty<S: Sink>(tree: &Type<'_>, out: &mut Pieces<'_, S>) -> PrintResu
 /// Writes a type that holds one.
 #[cycle(types)]
 fn holding<S: Sink>(
-    opening: &str,
     held: &Type<'_>,
+    opening: &str,
     span: &SourceSpan,
     out: &mut Pieces<'_, S>,
 ) -> PrintResult
@@ -94,8 +94,8 @@ fn holding<S: Sink>(
 /// Writes a type that may hold one.
 #[cycle(types)]
 fn perhaps_holding<S: Sink>(
-    opening: &str,
     held: &Option<Box<Type<'_>>>,
+    opening: &str,
     span: &SourceSpan,
     out: &mut Pieces<'_, S>,
 ) -> PrintResult

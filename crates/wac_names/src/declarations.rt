@@ -20,95 +20,95 @@ use wac_ast_types::{
 
 /// Notes a field of the record of a number.
 fn field<'a>(
+    field: &Field<'a>,
     finder: &mut Finder<'a>,
     here: Here,
     owner: usize,
-    field: &Field<'a>,
 ) -> Result<(), AllocError>
     ensures { OnOk result (Takes finder.old finder.new (field_steps here.level (field_of field.now))) }
 {
     finder.declare(&field.id, Kind::Field, Some(owner))?;
-    value_type(finder, here, &field.ty)
+    value_type(&field.ty, finder, here)
 }
 
 /// Notes the fields of the record of a number.
 fn fields<'a>(
+    fields: &[Field<'a>],
     finder: &mut Finder<'a>,
     here: Here,
     owner: usize,
-    fields: &[Field<'a>],
 ) -> Result<(), AllocError>
     ensures { OnOk result (Takes finder.old finder.new
         (flat_map (field_steps here.level) (map field_of fields.now))) }
 {
     for one in fields {
-        field(finder, here, owner, one)?;
+        field(one, finder, here, owner)?;
     }
     Ok(())
 }
 
 /// Notes a record.
 fn record<'a>(
+    decl: &RecordDecl<'a>,
     finder: &mut Finder<'a>,
     place: Place,
-    decl: &RecordDecl<'a>,
 ) -> Result<(), AllocError>
     ensures { OnOk result (Takes finder.old finder.new (record_steps place.here.level (record_decl_of decl.now))) }
 {
     let binding = finder.declare(&decl.id, Kind::Record, place.owner)?;
-    fields(finder, place.here, binding, &decl.fields)?;
+    fields(&decl.fields, finder, place.here, binding)?;
     finder.bind_type(place, &decl.id, Denoted::new(binding, None))
 }
 
 /// Notes the names of the type of a case, if it has one.
-fn payload<'a>(finder: &mut Finder<'a>, here: Here, ty: &Option<Type<'a>>) -> Result<(), AllocError>
+fn payload<'a>(ty: &Option<Type<'a>>, finder: &mut Finder<'a>, here: Here) -> Result<(), AllocError>
     ensures { OnOk result (Takes finder.old finder.new (payload_steps here.level (option_map ty_of ty.now))) }
 {
     match ty {
-        Some(ty) => value_type(finder, here, ty),
+        Some(ty) => value_type(ty, finder, here),
         None => Ok(()),
     }
 }
 
 /// Notes a case of the variant of a number.
 fn case<'a>(
+    case: &VariantCase<'a>,
     finder: &mut Finder<'a>,
     here: Here,
     owner: usize,
-    case: &VariantCase<'a>,
 ) -> Result<(), AllocError>
     ensures { OnOk result (Takes finder.old finder.new (case_steps here.level (variant_case_of case.now))) }
 {
     finder.declare(&case.id, Kind::Case, Some(owner))?;
-    payload(finder, here, &case.ty)
+    payload(&case.ty, finder, here)
 }
 
 /// Notes the cases of the variant of a number.
 fn cases<'a>(
+    cases: &[VariantCase<'a>],
     finder: &mut Finder<'a>,
     here: Here,
     owner: usize,
-    cases: &[VariantCase<'a>],
 ) -> Result<(), AllocError>
     ensures { OnOk result (Takes finder.old finder.new
         (flat_map (case_steps here.level) (map variant_case_of cases.now))) }
 {
     for one in cases {
-        case(finder, here, owner, one)?;
+        case(one, finder, here, owner)?;
     }
     Ok(())
 }
 
 /// Notes a variant.
 fn variant<'a>(
+    decl: &VariantDecl<'a>,
     finder: &mut Finder<'a>,
     place: Place,
-    decl: &VariantDecl<'a>,
 ) -> Result<(), AllocError>
     ensures { OnOk result (Takes finder.old finder.new (variant_steps place.here.level (variant_decl_of decl.now))) }
 {
     let binding = finder.declare(&decl.id, Kind::Variant, place.owner)?;
-    cases(finder, place.here, binding, &decl.cases)?;
+    cases(&decl.cases, finder, place.here, binding)?;
     finder.bind_type(place, &decl.id, Denoted::new(binding, None))
 }
 
@@ -163,103 +163,103 @@ fn enumeration<'a>(
 }
 
 /// Notes an alias.
-fn alias<'a>(finder: &mut Finder<'a>, place: Place, decl: &TypeAlias<'a>) -> Result<(), AllocError>
+fn alias<'a>(decl: &TypeAlias<'a>, finder: &mut Finder<'a>, place: Place) -> Result<(), AllocError>
     ensures { OnOk result (Takes finder.old finder.new (alias_steps place.here.level (type_alias_of decl.now))) }
 {
     let binding = finder.declare(&decl.id, Kind::Alias, place.owner)?;
-    aliased(finder, place.here, binding, &decl.kind)?;
+    aliased(&decl.kind, finder, place.here, binding)?;
     finder.bind_type(place, &decl.id, Denoted::new(binding, None))
 }
 
 /// Notes a method of the resource of a number.
 fn method<'a>(
+    method: &Method<'a>,
     finder: &mut Finder<'a>,
     here: Here,
     owner: usize,
-    method: &Method<'a>,
 ) -> Result<(), AllocError>
     ensures { OnOk result (Takes finder.old finder.new (func_steps here.level (method_of method.now).ty)) }
 {
     let binding = finder.declare(&method.id, Kind::Method, Some(owner))?;
-    function(finder, here, binding, &method.ty)
+    function(&method.ty, finder, here, binding)
 }
 
 /// Notes a constructor or a method of the resource of a number.
 fn constructor_or_method<'a>(
+    one: &ResourceMethod<'a>,
     finder: &mut Finder<'a>,
     here: Here,
     owner: usize,
-    one: &ResourceMethod<'a>,
 ) -> Result<(), AllocError>
     ensures { OnOk result (Takes finder.old finder.new (method_steps here.level (resource_method_of one.now))) }
 {
     match one {
         ResourceMethod::Constructor(constructor) => {
-            parameters(finder, here, owner, &constructor.params)
+            parameters(&constructor.params, finder, here, owner)
         }
-        ResourceMethod::Method(declared) => method(finder, here, owner, declared),
+        ResourceMethod::Method(declared) => method(declared, finder, here, owner),
     }
 }
 
 /// Notes the constructors and methods of the resource of a number.
 fn methods<'a>(
+    methods: &[ResourceMethod<'a>],
     finder: &mut Finder<'a>,
     here: Here,
     owner: usize,
-    methods: &[ResourceMethod<'a>],
 ) -> Result<(), AllocError>
     ensures { OnOk result (Takes finder.old finder.new
         (flat_map (method_steps here.level) (map resource_method_of methods.now))) }
 {
     for one in methods {
-        constructor_or_method(finder, here, owner, one)?;
+        constructor_or_method(one, finder, here, owner)?;
     }
     Ok(())
 }
 
 /// Notes a resource.
 fn resource<'a>(
+    decl: &ResourceDecl<'a>,
     finder: &mut Finder<'a>,
     place: Place,
-    decl: &ResourceDecl<'a>,
 ) -> Result<(), AllocError>
     ensures { OnOk result (Takes finder.old finder.new
         (resource_steps place.here.level (resource_decl_of decl.now))) }
 {
     let binding = finder.declare(&decl.id, Kind::Resource, place.owner)?;
     finder.bind_type(place, &decl.id, Denoted::new(binding, None))?;
-    methods(finder, place.here, binding, &decl.methods)
+    methods(&decl.methods, finder, place.here, binding)
 }
 
 /// Notes a type that the document declares.
-pub(crate) fn type_decl<'a>(finder: &mut Finder<'a>, decl: &TypeDecl<'a>) -> Result<(), AllocError>
+pub(crate) fn type_decl<'a>(decl: &TypeDecl<'a>, finder: &mut Finder<'a>) -> Result<(), AllocError>
     ensures { OnOk result (Takes finder.old finder.new (type_decl_steps (type_decl_of decl.now))) }
 {
     let place = Place::of_statements();
     match decl {
-        TypeDecl::Variant(decl) => variant(finder, place, decl),
-        TypeDecl::Record(decl) => record(finder, place, decl),
+        TypeDecl::Variant(decl) => variant(decl, finder, place),
+        TypeDecl::Record(decl) => record(decl, finder, place),
         TypeDecl::Flags(decl) => flags(finder, place, decl),
         TypeDecl::Enum(decl) => enumeration(finder, place, decl),
-        TypeDecl::Alias(decl) => alias(finder, place, decl),
+        TypeDecl::Alias(decl) => alias(decl, finder, place),
     }
 }
 
 /// Notes a type that an interface or a world declares.
 pub(crate) fn item_type<'a>(
+    decl: &ItemTypeDecl<'a>,
     finder: &mut Finder<'a>,
     place: Place,
-    decl: &ItemTypeDecl<'a>,
 ) -> Result<(), AllocError>
     ensures { OnOk result (Takes finder.old finder.new
         (item_type_steps place.here.level (item_type_decl_of decl.now))) }
 {
     match decl {
-        ItemTypeDecl::Resource(decl) => resource(finder, place, decl),
-        ItemTypeDecl::Variant(decl) => variant(finder, place, decl),
-        ItemTypeDecl::Record(decl) => record(finder, place, decl),
+        ItemTypeDecl::Resource(decl) => resource(decl, finder, place),
+        ItemTypeDecl::Variant(decl) => variant(decl, finder, place),
+        ItemTypeDecl::Record(decl) => record(decl, finder, place),
         ItemTypeDecl::Flags(decl) => flags(finder, place, decl),
         ItemTypeDecl::Enum(decl) => enumeration(finder, place, decl),
-        ItemTypeDecl::Alias(decl) => alias(finder, place, decl),
+        ItemTypeDecl::Alias(decl) => alias(decl, finder, place),
     }
 }

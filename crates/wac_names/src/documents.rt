@@ -31,20 +31,20 @@ use wac_ast_worlds::{ImportStatement, ImportType};
 
 /// Notes the names of what is imported under the name of a number, and returns the scope behind it.
 fn import_type<'a>(
+    ty: &ImportType<'a>,
     finder: &mut Finder<'a>,
     owner: usize,
-    ty: &ImportType<'a>,
 ) -> Result<Option<usize>, AllocError>
     ensures { OnOk result (Takes finder.old finder.new (import_type_steps (import_type_of ty.now))) }
 {
     match ty {
         ImportType::Package(from) => path(finder, from),
         ImportType::Func(func) => {
-            function(finder, Here::root(), owner, func)?;
+            function(func, finder, Here::root(), owner)?;
             Ok(None)
         }
         ImportType::Interface(inline) => {
-            let inner = interface(finder, Level::Body, owner, &inline.items)?;
+            let inner = interface(&inline.items, finder, Level::Body, owner)?;
             Ok(Some(inner))
         }
         ImportType::Ident(id) => at_root(finder, id),
@@ -52,74 +52,74 @@ fn import_type<'a>(
 }
 
 /// Notes the names of an import. The name after `as` is one of the world outside.
-fn import<'a>(finder: &mut Finder<'a>, import: &ImportStatement<'a>) -> Result<(), AllocError>
+fn import<'a>(import: &ImportStatement<'a>, finder: &mut Finder<'a>) -> Result<(), AllocError>
     ensures { OnOk result (Takes finder.old finder.new
         (statement_steps (Tree.import_statement (import_statement_of import.now)))) }
 {
     let binding = finder.declare(&import.id, Kind::Import, None)?;
-    let scope = import_type(finder, binding, &import.ty)?;
+    let scope = import_type(&import.ty, finder, binding)?;
     finder.bind_at_root(&import.id, Denoted::new(binding, scope))
 }
 
 /// Notes the names of a `let`. Its own is bound after the expression, which can't name it.
 fn let_statement<'a>(
-    finder: &mut Finder<'a>,
     statement: &LetStatement<'a>,
+    finder: &mut Finder<'a>,
 ) -> Result<(), AllocError>
     ensures { OnOk result (Takes finder.old finder.new
         (statement_steps (Tree.let_statement (let_statement_of statement.now)))) }
 {
     let binding = finder.declare(&statement.id, Kind::Let, None)?;
-    let scope = expression(finder, &statement.expr)?;
+    let scope = expression(&statement.expr, finder)?;
     finder.bind_at_root(&statement.id, Denoted::new(binding, scope))
 }
 
 /// Notes the names of a declaration.
 fn type_statement<'a>(
-    finder: &mut Finder<'a>,
     statement: &TypeStatement<'a>,
+    finder: &mut Finder<'a>,
 ) -> Result<(), AllocError>
     ensures { OnOk result (Takes finder.old finder.new (type_statement_steps (type_statement_of statement.now))) }
 {
     match statement {
-        TypeStatement::Interface(decl) => interface_decl(finder, decl),
+        TypeStatement::Interface(decl) => interface_decl(decl, finder),
         TypeStatement::World(decl) => world_decl(decl, finder),
-        TypeStatement::Ty(decl) => type_decl(finder, decl),
+        TypeStatement::Ty(decl) => type_decl(decl, finder),
     }
 }
 
 /// Notes the names of a statement. An export's name after `as` is one of the world outside.
-fn statement<'a>(finder: &mut Finder<'a>, statement: &Statement<'a>) -> Result<(), AllocError>
+fn statement<'a>(statement: &Statement<'a>, finder: &mut Finder<'a>) -> Result<(), AllocError>
     ensures { OnOk result (Takes finder.old finder.new (statement_steps (statement_of statement.now))) }
 {
     match statement {
-        Statement::Import(part) => import(finder, part),
-        Statement::Ty(part) => type_statement(finder, part),
-        Statement::Let(part) => let_statement(finder, part),
+        Statement::Import(part) => import(part, finder),
+        Statement::Ty(part) => type_statement(part, finder),
+        Statement::Let(part) => let_statement(part, finder),
         Statement::Export(part) => {
-            expression(finder, &part.expr)?;
+            expression(&part.expr, finder)?;
             Ok(())
         }
     }
 }
 
 /// Notes the names of statements.
-fn statements<'a>(finder: &mut Finder<'a>, statements: &[Statement<'a>]) -> Result<(), AllocError>
+fn statements<'a>(statements: &[Statement<'a>], finder: &mut Finder<'a>) -> Result<(), AllocError>
     ensures { OnOk result (Takes finder.old finder.new
         (flat_map statement_steps (map statement_of statements.now))) }
 {
     for next in statements {
-        statement(finder, next)?;
+        statement(next, finder)?;
     }
     Ok(())
 }
 
 /// Notes the names of lent statements.
-fn all_statements<'a>(finder: &mut Finder<'a>, all: Statements<'_, 'a>) -> Result<(), AllocError>
+fn all_statements<'a>(all: Statements<'_, 'a>, finder: &mut Finder<'a>) -> Result<(), AllocError>
     ensures { OnOk result (Takes finder.old finder.new (flat_map statement_steps (map statement_of all.entry))) }
 {
     let all = all.all;
-    statements(finder, all)
+    statements(all, finder)
 }
 
 /// Notes the names of the target, if there is one: what its first segment denotes after all statements.
@@ -137,15 +137,15 @@ fn target<'a>(finder: &mut Finder<'a>, targets: &Option<PackagePath<'a>>) -> Res
 
 /// Notes all names.
 fn all_names<'a>(
+    statements: Statements<'_, 'a>,
     finder: &mut Finder<'a>,
     directive: &PackageDirective<'a>,
-    statements: Statements<'_, 'a>,
 ) -> Result<(), AllocError>
     ensures { OnOk result (Takes finder.old finder.new
         (steps_of (directive_of directive.now) (map statement_of statements.entry))) }
 {
     finder.open_root()?;
-    all_statements(finder, statements)?;
+    all_statements(statements, finder)?;
     target(finder, &directive.targets)
 }
 
@@ -156,10 +156,10 @@ impl Names {
     /// something of another package, is no mention. Where a name is bound twice in a scope, others denote the first.
     /// The error is that memory ran out.
     pub fn of<'a>(
+        statements: Statements<'_, 'a>,
         alloc: Global,
         source: &str,
         directive: &PackageDirective<'a>,
-        statements: Statements<'_, 'a>,
     ) -> Result<Names, AllocError>
         // Each mention stands for one of the names, and is spelled like it.
         ensures tied { IfOk result (AreTied source.now) }
@@ -169,7 +169,7 @@ impl Names {
     {
         let own = directive.package.name;
         let mut finder = Finder::new(alloc, own);
-        all_names(&mut finder, directive, statements)?;
+        all_names(statements, &mut finder, directive)?;
         let (found, steps) = finder.into_parts();
         standing_names(alloc, source, own, found, &steps)
     }

@@ -16,50 +16,50 @@ use wac_lexer::SourceSpan;
 /// Notes the names of an expression, and returns the scope behind it.
 #[cycle(expression)]
 pub(crate) fn expression<'a>(
-    finder: &mut Finder<'a>,
     expr: &Expr<'a>,
+    finder: &mut Finder<'a>,
 ) -> Result<Option<usize>, AllocError>
     ensures { OnOk result (Takes finder.old finder.new (expr_steps (expr_of expr.now))) }
 {
-    let scope = primary(finder, &expr.primary)?;
-    accesses(finder, scope, &expr.postfix)
+    let scope = primary(&expr.primary, finder)?;
+    accesses(&expr.postfix, finder, scope)
 }
 
 /// Notes the names of the beginning of an expression, and returns the scope behind it. What a new instance exports is
 /// declared in another package.
 #[cycle(expression)]
-fn primary<'a>(finder: &mut Finder<'a>, expr: &PrimaryExpr<'a>) -> Result<Option<usize>, AllocError>
+fn primary<'a>(expr: &PrimaryExpr<'a>, finder: &mut Finder<'a>) -> Result<Option<usize>, AllocError>
     ensures { OnOk result (Takes finder.old finder.new (primary_steps (primary_expr_of expr.now))) }
 {
     match expr {
         PrimaryExpr::New(new) => {
-            instantiation(finder, new)?;
+            instantiation(new, finder)?;
             Ok(None)
         }
-        PrimaryExpr::Nested(nested) => expression(finder, &nested.inner),
+        PrimaryExpr::Nested(nested) => expression(&nested.inner, finder),
         PrimaryExpr::Ident(id) => at_root(finder, id),
     }
 }
 
 /// Notes the names of a `new`.
 #[cycle(expression)]
-fn instantiation<'a>(finder: &mut Finder<'a>, new: &NewExpr<'a>) -> Result<(), AllocError>
+fn instantiation<'a>(new: &NewExpr<'a>, finder: &mut Finder<'a>) -> Result<(), AllocError>
     ensures { OnOk result (Takes finder.old finder.new (primary_steps (new_expr_of new.now))) }
 {
-    arguments(finder, &new.arguments)
+    arguments(&new.arguments, finder)
 }
 
 /// Notes the names of arguments.
 #[cycle(expression)]
 fn arguments<'a>(
-    finder: &mut Finder<'a>,
     arguments: &[InstantiationArgument<'a>],
+    finder: &mut Finder<'a>,
 ) -> Result<(), AllocError>
     ensures { OnOk result (Takes finder.old finder.new
         (arguments_steps (arguments_from (map argument_of arguments.now)))) }
 {
     for one in arguments {
-        argument(finder, one)?;
+        argument(one, finder)?;
     }
     Ok(())
 }
@@ -67,8 +67,8 @@ fn arguments<'a>(
 /// Notes the names of an argument. What is before a colon is the name of another package's import.
 #[cycle(expression)]
 fn argument<'a>(
-    finder: &mut Finder<'a>,
     argument: &InstantiationArgument<'a>,
+    finder: &mut Finder<'a>,
 ) -> Result<(), AllocError>
     ensures { OnOk result (Takes finder.old finder.new (argument_steps (argument_of argument.now))) }
 {
@@ -78,7 +78,7 @@ fn argument<'a>(
             Ok(())
         }
         InstantiationArgument::Named(named) => {
-            expression(finder, &named.expr)?;
+            expression(&named.expr, finder)?;
             Ok(())
         }
         InstantiationArgument::Fill(_) => Ok(()),
@@ -107,9 +107,9 @@ fn accessed<'a>(access: &PostfixExpr<'a>) -> Ident<'a> {
 
 /// Notes the names of accesses to what has this scope behind it, and returns the scope behind the last.
 fn accesses<'a>(
+    accesses: &[PostfixExpr<'a>],
     finder: &mut Finder<'a>,
     scope: Option<usize>,
-    accesses: &[PostfixExpr<'a>],
 ) -> Result<Option<usize>, AllocError>
     ensures { OnOk result (finder.new ≡ finder.old) }
 {

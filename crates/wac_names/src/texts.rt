@@ -47,7 +47,7 @@ fn names_in(lent: Lent<'_, '_>, alloc: Global, text: &str) -> Result<Option<Name
     let statements = Statements {
         all: &document.statements,
     };
-    match Names::of(alloc, text, &document.directive, statements) {
+    match Names::of(statements, alloc, text, &document.directive) {
         Ok(names) => Ok(Some(names)),
         Err(_) => Err(AllocError),
     }

@@ -25,24 +25,24 @@ fn named<'a>(finder: &mut Finder<'a>, here: Here, id: &Ident<'a>) -> Result<(), 
 /// Notes the names of a type in a scope.
 #[cycle(types)]
 pub(crate) fn value_type<'a>(
+    ty: &Type<'a>,
     finder: &mut Finder<'a>,
     here: Here,
-    ty: &Type<'a>,
 ) -> Result<(), AllocError>
     ensures { OnOk result (Takes finder.old finder.new (type_steps here.level (ty_of ty.now))) }
 {
     match ty {
         Type::Ident(id) => named(finder, here, id),
         Type::Borrow(id, _) => named(finder, here, id),
-        Type::Tuple(types, _) => value_types(finder, here, types),
-        Type::List(inner, _) => value_type(finder, here, inner),
-        Type::Option(inner, _) => value_type(finder, here, inner),
+        Type::Tuple(types, _) => value_types(types, finder, here),
+        Type::List(inner, _) => value_type(inner, finder, here),
+        Type::Option(inner, _) => value_type(inner, finder, here),
         Type::Result { ok, err, .. } => {
-            optional(finder, here, ok)?;
-            optional(finder, here, err)
+            optional(ok, finder, here)?;
+            optional(err, finder, here)
         }
-        Type::Stream(inner, _) => optional(finder, here, inner),
-        Type::Future(inner, _) => optional(finder, here, inner),
+        Type::Stream(inner, _) => optional(inner, finder, here),
+        Type::Future(inner, _) => optional(inner, finder, here),
         _ => Ok(()),
     }
 }
@@ -50,14 +50,14 @@ pub(crate) fn value_type<'a>(
 /// Notes the names of a type that may be left out.
 #[cycle(types)]
 fn optional<'a>(
+    ty: &Option<Box<Type<'a>>>,
     finder: &mut Finder<'a>,
     here: Here,
-    ty: &Option<Box<Type<'a>>>,
 ) -> Result<(), AllocError>
     ensures { OnOk result (Takes finder.old finder.new (optional_steps here.level (optional_of ty.now))) }
 {
     match ty {
-        Some(ty) => value_type(finder, here, ty),
+        Some(ty) => value_type(ty, finder, here),
         None => Ok(()),
     }
 }
@@ -65,120 +65,120 @@ fn optional<'a>(
 /// Notes the names of types.
 #[cycle(types)]
 fn value_types<'a>(
+    types: &[Type<'a>],
     finder: &mut Finder<'a>,
     here: Here,
-    types: &[Type<'a>],
 ) -> Result<(), AllocError>
     ensures { OnOk result (Takes finder.old finder.new
         (types_steps here.level (types_from (map ty_of types.now)))) }
 {
     for ty in types {
-        value_type(finder, here, ty)?;
+        value_type(ty, finder, here)?;
     }
     Ok(())
 }
 
 /// Notes a parameter or a result of a function.
 fn named_type<'a>(
+    one: &NamedType<'a>,
     finder: &mut Finder<'a>,
     here: Here,
     owner: usize,
     kind: Kind,
-    one: &NamedType<'a>,
 ) -> Result<(), AllocError>
     ensures { OnOk result (Takes finder.old finder.new (named_type_steps here.level (named_type_of one.now))) }
 {
     finder.declare(&one.id, kind, Some(owner))?;
-    value_type(finder, here, &one.ty)
+    value_type(&one.ty, finder, here)
 }
 
 /// Notes parameters or results of a function.
 fn named_types<'a>(
+    all: &[NamedType<'a>],
     finder: &mut Finder<'a>,
     here: Here,
     owner: usize,
     kind: Kind,
-    all: &[NamedType<'a>],
 ) -> Result<(), AllocError>
     ensures { OnOk result (Takes finder.old finder.new
         (flat_map (named_type_steps here.level) (map named_type_of all.now))) }
 {
     for one in all {
-        named_type(finder, here, owner, kind, one)?;
+        named_type(one, finder, here, owner, kind)?;
     }
     Ok(())
 }
 
 /// Notes parameters, in the declaration of the name of a number.
 pub(crate) fn parameters<'a>(
+    all: &[NamedType<'a>],
     finder: &mut Finder<'a>,
     here: Here,
     owner: usize,
-    all: &[NamedType<'a>],
 ) -> Result<(), AllocError>
     ensures { OnOk result (Takes finder.old finder.new
         (flat_map (named_type_steps here.level) (map named_type_of all.now))) }
 {
-    named_types(finder, here, owner, Kind::Parameter, all)
+    named_types(all, finder, here, owner, Kind::Parameter)
 }
 
 /// Notes the results of a function.
 fn results<'a>(
+    results: &ResultList<'a>,
     finder: &mut Finder<'a>,
     here: Here,
     owner: usize,
-    results: &ResultList<'a>,
 ) -> Result<(), AllocError>
     ensures { OnOk result (Takes finder.old finder.new (results_steps here.level (result_list_of results.now))) }
 {
     match results {
         ResultList::Empty => Ok(()),
-        ResultList::Scalar(ty) => value_type(finder, here, ty),
-        ResultList::Named(all) => named_types(finder, here, owner, Kind::NamedResult, all),
+        ResultList::Scalar(ty) => value_type(ty, finder, here),
+        ResultList::Named(all) => named_types(all, finder, here, owner, Kind::NamedResult),
     }
 }
 
 /// Notes the names of a function type, in the declaration of the name of a number.
 pub(crate) fn function<'a>(
+    func: &FuncType<'a>,
     finder: &mut Finder<'a>,
     here: Here,
     owner: usize,
-    func: &FuncType<'a>,
 ) -> Result<(), AllocError>
     ensures { OnOk result (Takes finder.old finder.new (func_steps here.level (func_type_of func.now))) }
 {
-    parameters(finder, here, owner, &func.params)?;
-    results(finder, here, owner, &func.results)
+    parameters(&func.params, finder, here, owner)?;
+    results(&func.results, finder, here, owner)
 }
 
 /// Notes the names of a function type or of a reference to one.
 pub(crate) fn function_reference<'a>(
+    reference: &FuncTypeRef<'a>,
     finder: &mut Finder<'a>,
     here: Here,
     owner: usize,
-    reference: &FuncTypeRef<'a>,
 ) -> Result<(), AllocError>
     ensures { OnOk result (Takes finder.old finder.new
         (func_ref_steps here.level (func_type_ref_of reference.now))) }
 {
     match reference {
-        FuncTypeRef::Func(func) => function(finder, here, owner, func),
+        FuncTypeRef::Func(func) => function(func, finder, here, owner),
         FuncTypeRef::Ident(id) => named(finder, here, id),
     }
 }
 
 /// Notes the names of what an alias is of.
 pub(crate) fn aliased<'a>(
+    kind: &TypeAliasKind<'a>,
     finder: &mut Finder<'a>,
     here: Here,
     owner: usize,
-    kind: &TypeAliasKind<'a>,
 ) -> Result<(), AllocError>
     ensures { OnOk result (Takes finder.old finder.new
         (alias_kind_steps here.level (type_alias_kind_of kind.now))) }
 {
     match kind {
-        TypeAliasKind::Func(func) => function(finder, here, owner, func),
-        TypeAliasKind::Ty(ty) => value_type(finder, here, ty),
+        TypeAliasKind::Func(func) => function(func, finder, here, owner),
+        TypeAliasKind::Ty(ty) => value_type(ty, finder, here),
     }
 }

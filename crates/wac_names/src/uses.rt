@@ -70,9 +70,9 @@ fn use_items<'a>(
 
 /// Notes the names of a `use`.
 pub(crate) fn use_statement<'a>(
+    used: &Use<'a>,
     finder: &mut Finder<'a>,
     place: Place,
-    used: &Use<'a>,
 ) -> Result<(), AllocError>
     ensures { OnOk result (Takes finder.old finder.new (use_steps place.here.level (use_of used.now))) }
 {

@@ -36,21 +36,21 @@ fn named_extern<'a>(
 
 /// Notes the names of the type of an item, in the declaration of the name of a number, and returns the scope behind it.
 fn extern_type<'a>(
+    ty: &ExternType<'a>,
     finder: &mut Finder<'a>,
     here: Here,
     owner: usize,
-    ty: &ExternType<'a>,
 ) -> Result<Option<usize>, AllocError>
     ensures { OnOk result (Takes finder.old finder.new (extern_type_steps here.level (extern_type_of ty.now))) }
 {
     match ty {
         ExternType::Ident(id) => named_extern(finder, here, id),
         ExternType::Func(func) => {
-            function(finder, here, owner, func)?;
+            function(func, finder, here, owner)?;
             Ok(None)
         }
         ExternType::Interface(inline) => {
-            let inner = interface(finder, Level::Inner, owner, &inline.items)?;
+            let inner = interface(&inline.items, finder, Level::Inner, owner)?;
             Ok(Some(inner))
         }
     }
@@ -66,32 +66,32 @@ fn kind_on(side: Part) -> Kind {
 
 /// Notes an import or export with a name.
 fn named_item<'a>(
+    item: &NamedWorldItem<'a>,
     finder: &mut Finder<'a>,
     place: Place,
     side: Part,
-    item: &NamedWorldItem<'a>,
 ) -> Result<(), AllocError>
     ensures { OnOk result (Takes finder.old finder.new
         (extern_type_steps place.here.level (named_world_item_of item.now).ty)) }
 {
     let binding = finder.declare(&item.id, kind_on(side), place.owner)?;
-    let scope = extern_type(finder, place.here, binding, &item.ty)?;
+    let scope = extern_type(&item.ty, finder, place.here, binding)?;
     let denoted = Denoted::new(binding, scope);
     finder.bind_outside(place.here.scope, side, &item.id, denoted)
 }
 
 /// Notes the names of an import or export.
 fn extern_item<'a>(
+    item: &WorldItemPath<'a>,
     finder: &mut Finder<'a>,
     place: Place,
     side: Part,
-    item: &WorldItemPath<'a>,
 ) -> Result<(), AllocError>
     ensures { OnOk result (Takes finder.old finder.new
         (extern_steps place.here.level (world_item_path_of item.now))) }
 {
     match item {
-        WorldItemPath::Named(item) => named_item(finder, place, side, item),
+        WorldItemPath::Named(item) => named_item(item, finder, place, side),
         WorldItemPath::Package(from) => {
             path(finder, from)?;
             Ok(())
@@ -105,9 +105,9 @@ fn extern_item<'a>(
 
 /// Notes the names of an `include`.
 fn include<'a>(
+    clause: &WorldInclude<'a>,
     finder: &mut Finder<'a>,
     place: Place,
-    clause: &WorldInclude<'a>,
 ) -> Result<(), AllocError>
     ensures { OnOk result (Takes finder.old finder.new (world_ref_steps (world_include_of clause.now).world)) }
 {
@@ -117,49 +117,49 @@ fn include<'a>(
 
 /// Notes the names of an item.
 fn world_item<'a>(
+    item: &WorldItem<'a>,
     finder: &mut Finder<'a>,
     place: Place,
-    item: &WorldItem<'a>,
 ) -> Result<(), AllocError>
     ensures { OnOk result (Takes finder.old finder.new
         (world_item_steps place.here.level (world_item_of item.now))) }
 {
     match item {
-        WorldItem::Use(used) => use_statement(finder, place, used),
-        WorldItem::Import(import) => extern_item(finder, place, Part::Imports, &import.path),
-        WorldItem::Export(export) => extern_item(finder, place, Part::Exports, &export.path),
-        WorldItem::Include(clause) => include(finder, place, clause),
-        WorldItem::Ty(decl) => item_type(finder, place, decl),
+        WorldItem::Use(used) => use_statement(used, finder, place),
+        WorldItem::Import(import) => extern_item(&import.path, finder, place, Part::Imports),
+        WorldItem::Export(export) => extern_item(&export.path, finder, place, Part::Exports),
+        WorldItem::Include(clause) => include(clause, finder, place),
+        WorldItem::Ty(decl) => item_type(decl, finder, place),
     }
 }
 
 /// Notes the names of items.
 fn world_items<'a>(
+    items: &[WorldItem<'a>],
     finder: &mut Finder<'a>,
     place: Place,
-    items: &[WorldItem<'a>],
 ) -> Result<(), AllocError>
     ensures { OnOk result (Takes finder.old finder.new
         (flat_map (world_item_steps place.here.level) (map world_item_of items.now))) }
 {
     for item in items {
-        world_item(finder, place, item)?;
+        world_item(item, finder, place)?;
     }
     Ok(())
 }
 
 /// Notes the names of a world of a name and items. It is bound after its items, so that they can't name it.
 fn world<'a>(
+    items: &[WorldItem<'a>],
     finder: &mut Finder<'a>,
     id: &Ident<'a>,
-    items: &[WorldItem<'a>],
 ) -> Result<(), AllocError>
     ensures { OnOk result (Takes finder.old finder.new
         (world_steps (map world_item_of items.now) ++ Step.binds levels.Root (ident_of id.now) ∷ [])) }
 {
     let binding = finder.declare(id, Kind::World, None)?;
     let place = finder.open_body(Level::Body, binding, Part::Imports)?;
-    world_items(finder, place, items)?;
+    world_items(items, finder, place)?;
     let scope = Some(place.here.scope);
     finder.bind_at_root(id, Denoted::new(binding, scope))
 }
@@ -179,5 +179,5 @@ pub(crate) fn world_decl<'a>(
     ensures { OnOk result (Takes finder.old finder.new
         (type_statement_steps (TypeStatement.world (world_decl_of decl.now)))) }
 {
-    world(finder, &decl.id, items_of(decl))
+    world(items_of(decl), finder, &decl.id)
 }

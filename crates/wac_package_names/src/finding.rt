@@ -69,71 +69,71 @@ pub fn find_instantiations(
     statements: Statements<'_, '_>,
 ) -> Result<Instantiations, AllocError> {
     let mut found = Found::new(alloc);
-    let noted = all_statements(&mut found, statements);
+    let noted = all_statements(statements, &mut found);
     found.after(noted)
 }
 
 /// Notes what lent statements have.
-fn all_statements(found: &mut Found, all: Statements<'_, '_>) -> Result<(), AllocError> {
+fn all_statements(all: Statements<'_, '_>, found: &mut Found) -> Result<(), AllocError> {
     let all = all.all;
-    statements(found, all)
+    statements(all, found)
 }
 
 /// Notes what statements have.
-fn statements(found: &mut Found, statements: &[Statement<'_>]) -> Result<(), AllocError> {
+fn statements(statements: &[Statement<'_>], found: &mut Found) -> Result<(), AllocError> {
     for next in statements {
-        statement(found, next)?;
+        statement(next, found)?;
     }
     Ok(())
 }
 
 /// Notes what a statement has.
-fn statement(found: &mut Found, statement: &Statement<'_>) -> Result<(), AllocError> {
+fn statement(statement: &Statement<'_>, found: &mut Found) -> Result<(), AllocError> {
     match statement {
-        Statement::Let(binding) => expression(found, &binding.expr),
-        Statement::Export(export) => expression(found, &export.expr),
+        Statement::Let(binding) => expression(&binding.expr, found),
+        Statement::Export(export) => expression(&export.expr, found),
         Statement::Import(_) | Statement::Ty(_) => Ok(()),
     }
 }
 
 /// Notes what an expression has.
 #[cycle(expression)]
-fn expression(found: &mut Found, expr: &Expr<'_>) -> Result<(), AllocError> {
-    accesses(found, expr.span.offset(), &expr.postfix)?;
-    primary(found, &expr.primary)
+fn expression(expr: &Expr<'_>, found: &mut Found) -> Result<(), AllocError> {
+    accesses(&expr.postfix, found, expr.span.offset())?;
+    primary(&expr.primary, found)
 }
 
 /// Notes what the beginning of an expression has.
 #[cycle(expression)]
-fn primary(found: &mut Found, expr: &PrimaryExpr<'_>) -> Result<(), AllocError> {
+fn primary(expr: &PrimaryExpr<'_>, found: &mut Found) -> Result<(), AllocError> {
     match expr {
-        PrimaryExpr::New(new) => instantiation(found, new),
-        PrimaryExpr::Nested(nested) => expression(found, &nested.inner),
+        PrimaryExpr::New(new) => instantiation(new, found),
+        PrimaryExpr::Nested(nested) => expression(&nested.inner, found),
         PrimaryExpr::Ident(_) => Ok(()),
     }
 }
 
 /// Notes an instantiation, and what its arguments have.
 #[cycle(expression)]
-fn instantiation(found: &mut Found, new: &NewExpr<'_>) -> Result<(), AllocError> {
+fn instantiation(new: &NewExpr<'_>, found: &mut Found) -> Result<(), AllocError> {
     found.instantiation(&new.package, new.span)?;
-    arguments(found, &new.arguments)
+    arguments(&new.arguments, found)
 }
 
 /// Notes what arguments have.
 #[cycle(expression)]
-fn arguments(found: &mut Found, arguments: &[InstantiationArgument<'_>]) -> Result<(), AllocError> {
+fn arguments(arguments: &[InstantiationArgument<'_>], found: &mut Found) -> Result<(), AllocError> {
     for one in arguments {
-        argument(found, one)?;
+        argument(one, found)?;
     }
     Ok(())
 }
 
 /// Notes what an argument has.
 #[cycle(expression)]
-fn argument(found: &mut Found, argument: &InstantiationArgument<'_>) -> Result<(), AllocError> {
+fn argument(argument: &InstantiationArgument<'_>, found: &mut Found) -> Result<(), AllocError> {
     match argument {
-        InstantiationArgument::Named(named) => expression(found, &named.expr),
+        InstantiationArgument::Named(named) => expression(&named.expr, found),
         InstantiationArgument::Inferred(_)
         | InstantiationArgument::Spread(_)
         | InstantiationArgument::Fill(_) => Ok(()),
@@ -151,9 +151,9 @@ fn place_of(postfix: &PostfixExpr<'_>) -> SourceSpan {
 /// Notes accesses of an expression that begins at an offset.
 #[inline(never)]
 fn accesses(
+    postfixes: &[PostfixExpr<'_>],
     found: &mut Found,
     start: usize,
-    postfixes: &[PostfixExpr<'_>],
 ) -> Result<(), AllocError> {
     for postfix in postfixes {
         found.access(start, place_of(postfix))?;

@@ -35,10 +35,10 @@ fn identifier<'x, 'a>(statement: &'x TypeStatement<'a>) -> &'x Ident<'a>
 
 /// The kind that a type statement declares.
 fn declared_kind(
+    statement: &TypeStatement<'_>,
     state: &mut State,
     context: &Context<'_>,
     root: &Root<'_>,
-    statement: &TypeStatement<'_>,
 ) -> Result<ItemKind, Error>
     requires agrees { Agrees state.old.graph root.now }
     requires supplied { AllSupplied (packages_in context.now) state.old.graph }
@@ -53,19 +53,19 @@ fn declared_kind(
         root: &root.kinds,
     };
     match statement {
-        TypeStatement::Interface(decl) => interface_decl(state, &outer, decl),
+        TypeStatement::Interface(decl) => interface_decl(decl, state, &outer),
         TypeStatement::World(decl) => world_decl(decl, state, &outer),
-        TypeStatement::Ty(decl) => wac_resolution_types::type_decl(state, &root.kinds, decl),
+        TypeStatement::Ty(decl) => wac_resolution_types::type_decl(decl, state, &root.kinds),
     }
 }
 
 /// Executes a type statement: a definition of the kind that it declares.
 pub(crate) fn type_statement<'a>(
+    statement: &TypeStatement<'a>,
     state: &mut State,
     context: &Context<'_>,
     root: &mut Root<'a>,
     externs: &mut Externs,
-    statement: &TypeStatement<'a>,
 ) -> Result<(), Error>
     requires { Stand context.now state.old.graph root.old externs.old }
     ensures ok { OnOk result ((rules : Rules)
@@ -75,7 +75,7 @@ pub(crate) fn type_statement<'a>(
         → Breaks context.now rules state.old.graph root.old externs.old
         (Statement.type_statement (type_statement_of statement.now)) e) }
 {
-    let kind = declared_kind(state, context, root, statement)?;
+    let kind = declared_kind(statement, state, context, root)?;
     define(state, root, externs, identifier(statement), kind)?;
     Ok(())
 }

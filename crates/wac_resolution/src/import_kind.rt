@@ -19,12 +19,12 @@ use wac_resolution_state::{Context, Root, State, kind_of, path};
 use wac_resolution_worlds::{OuterScope, interface, new_func};
 
 /// The kind of a function whose type is written in place.
-fn func_kind(state: &mut State, root: &Root<'_>, func: &FuncType<'_>) -> Result<ItemKind, Error>
+fn func_kind(func: &FuncType<'_>, state: &mut State, root: &Root<'_>) -> Result<ItemKind, Error>
     requires { ItemsNamed state.old.graph.types (values_of root.now.kinds) }
     ensures ok { IfOk result (FuncMade state.old.graph state.new.graph root.now (func_type_of func.now)) }
     ensures err { ErrorSays result (FuncTypeBreaks state.old.graph root.now (func_type_of func.now)) }
 {
-    match new_func(state, &root.kinds, func) {
+    match new_func(func, state, &root.kinds) {
         Ok(id) => Ok(ItemKind::Func(id)),
         Err(error) => Err(error),
     }
@@ -48,7 +48,7 @@ fn inline_kind(
         context,
         root: &root.kinds,
     };
-    match interface(state, &outer, None, None, &inline.items) {
+    match interface(&inline.items, state, &outer, None, None) {
         Ok(id) => Ok(ItemKind::Instance(id)),
         Err(error) => Err(error),
     }
@@ -56,10 +56,10 @@ fn inline_kind(
 
 /// The kind that the type of an import means, before it is promoted.
 pub(crate) fn import_kind(
+    ty: &ImportType<'_>,
     state: &mut State,
     context: &Context<'_>,
     root: &Root<'_>,
-    ty: &ImportType<'_>,
 ) -> Result<ItemKind, Error>
     requires agrees { Agrees state.old.graph root.now }
     requires supplied { AllSupplied (packages_in context.now) state.old.graph }
@@ -70,7 +70,7 @@ pub(crate) fn import_kind(
 {
     match ty {
         ImportType::Package(from) => path(state, context, &root.kinds, from),
-        ImportType::Func(func) => func_kind(state, root, func),
+        ImportType::Func(func) => func_kind(func, state, root),
         ImportType::Interface(inline) => inline_kind(inline, state, context, root),
         ImportType::Ident(id) => kind_of(state.alloc, &root.kinds, id),
     }

@@ -15,11 +15,11 @@ use wac_resolution_statements::{Externs, NewImport, import_as, import_name};
 
 /// Executes an import statement.
 pub(crate) fn import_statement<'a, R: Rules>(
+    statement: &ImportStatement<'a>,
     state: &mut State,
     given: &Given<'_, R>,
     root: &mut Root<'a>,
     externs: &mut Externs,
-    statement: &ImportStatement<'a>,
 ) -> Result<(), Error>
     requires { Stand given.now.context.now state.old.graph root.old externs.old }
     ensures ok { OnOk result (StatementRun given.now.context.now (rules_of R.Rules given.now.rules.now) state.old.graph
@@ -28,9 +28,9 @@ pub(crate) fn import_statement<'a, R: Rules>(
     ensures err { ErrorSays result (λ e. Breaks given.now.context.now (rules_of R.Rules given.now.rules.now)
         state.old.graph root.old externs.old (StatementTree.import_statement (import_statement_of statement.now)) e) }
 {
-    let kind = import_kind(state, given.context, root, &statement.ty)?;
+    let kind = import_kind(&statement.ty, state, given.context, root)?;
     let item = kind.promote();
-    let text = import_name(state, statement, kind)?;
+    let text = import_name(statement, state, kind)?;
     let import = NewImport {
         statement,
         text: text.as_str(),

@@ -15,11 +15,11 @@ use wac_resolution_statements::Externs;
 
 /// Executes borrowed statements in order.
 pub(crate) fn carry_out<'a, R: Rules>(
+    statements: Statements<'_, 'a>,
     state: &mut State,
     given: &Given<'_, R>,
     root: &mut Root<'a>,
     externs: &mut Externs,
-    statements: Statements<'_, 'a>,
 ) -> Result<(), Error>
     requires { Stand given.now.context.now state.old.graph root.old externs.old }
     ensures ok { OnOk result (StatementsRun given.now.context.now (rules_of R.Rules given.now.rules.now)
@@ -29,5 +29,5 @@ pub(crate) fn carry_out<'a, R: Rules>(
         state.old.graph root.old externs.old (map statement_of statements.entry) e) }
 {
     let all = statements.all;
-    compose(state, given, root, externs, all)
+    compose(all, state, given, root, externs)
 }

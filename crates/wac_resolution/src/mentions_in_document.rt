@@ -20,16 +20,16 @@ use wac_lexer::SourceSpan;
 
 /// What the directive and the statements of a document mention, in their order.
 fn mentioned(
+    statements: Statements<'_, '_>,
     alloc: Global,
     directive: &PackageDirective<'_>,
-    statements: Statements<'_, '_>,
 ) -> Result<IndexMap<PackageKey, SourceSpan>, AllocError>
     ensures { IfOk result (λ m. mentions_in m.entries ≡ first_mentions
         (mentioned_by (directive_of directive.now) (map statement_of statements.entry))) }
 {
     let mut mentions = Mentions::new(alloc, directive.package.name);
     target(&mut mentions, &directive.targets)?;
-    all_statements(&mut mentions, statements)?;
+    all_statements(statements, &mut mentions)?;
     Ok(mentions.into_first())
 }
 
@@ -62,5 +62,5 @@ pub fn packages(
     let statements = Statements {
         all: &document.statements,
     };
-    mentioned(alloc, directive, statements)
+    mentioned(statements, alloc, directive)
 }

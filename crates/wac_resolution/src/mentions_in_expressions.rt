@@ -11,45 +11,45 @@ use wac_ast_statements::{Expr, InstantiationArgument, NewExpr, PrimaryExpr};
 
 /// Notes what an expression mentions.
 #[cycle(expression)]
-pub(crate) fn expression(mentions: &mut Mentions<'_>, expr: &Expr<'_>) -> Result<(), AllocError>
+pub(crate) fn expression(expr: &Expr<'_>, mentions: &mut Mentions<'_>) -> Result<(), AllocError>
     ensures { OnOk result (Notes mentions.old mentions.new (expr_mentions mentions.old.own (expr_of expr.now))) }
 {
-    primary(mentions, &expr.primary)
+    primary(&expr.primary, mentions)
 }
 
 /// Notes what the beginning of an expression mentions.
 #[cycle(expression)]
-fn primary(mentions: &mut Mentions<'_>, expr: &PrimaryExpr<'_>) -> Result<(), AllocError>
+fn primary(expr: &PrimaryExpr<'_>, mentions: &mut Mentions<'_>) -> Result<(), AllocError>
     ensures { OnOk result (Notes mentions.old mentions.new
         (primary_mentions mentions.old.own (primary_expr_of expr.now))) }
 {
     match expr {
-        PrimaryExpr::New(new) => instantiation(mentions, new),
-        PrimaryExpr::Nested(nested) => expression(mentions, &nested.inner),
+        PrimaryExpr::New(new) => instantiation(new, mentions),
+        PrimaryExpr::Nested(nested) => expression(&nested.inner, mentions),
         PrimaryExpr::Ident(_) => Ok(()),
     }
 }
 
 /// Notes what a `new` mentions: the package, and what its arguments mention.
 #[cycle(expression)]
-fn instantiation(mentions: &mut Mentions<'_>, new: &NewExpr<'_>) -> Result<(), AllocError>
+fn instantiation(new: &NewExpr<'_>, mentions: &mut Mentions<'_>) -> Result<(), AllocError>
     ensures { OnOk result (Notes mentions.old mentions.new (primary_mentions mentions.old.own (new_expr_of new.now))) }
 {
     mentions.name(&new.package)?;
-    arguments(mentions, &new.arguments)
+    arguments(&new.arguments, mentions)
 }
 
 /// Notes what arguments mention.
 #[cycle(expression)]
 fn arguments(
-    mentions: &mut Mentions<'_>,
     arguments: &[InstantiationArgument<'_>],
+    mentions: &mut Mentions<'_>,
 ) -> Result<(), AllocError>
     ensures { OnOk result (Notes mentions.old mentions.new
         (arguments_mentions mentions.old.own (arguments_from (map argument_of arguments.now)))) }
 {
     for one in arguments {
-        argument(mentions, one)?;
+        argument(one, mentions)?;
     }
     Ok(())
 }
@@ -57,14 +57,14 @@ fn arguments(
 /// Notes what an argument mentions.
 #[cycle(expression)]
 fn argument(
-    mentions: &mut Mentions<'_>,
     argument: &InstantiationArgument<'_>,
+    mentions: &mut Mentions<'_>,
 ) -> Result<(), AllocError>
     ensures { OnOk result (Notes mentions.old mentions.new
         (argument_mentions mentions.old.own (argument_of argument.now))) }
 {
     match argument {
-        InstantiationArgument::Named(named) => expression(mentions, &named.expr),
+        InstantiationArgument::Named(named) => expression(&named.expr, mentions),
         InstantiationArgument::Inferred(_)
         | InstantiationArgument::Spread(_)
         | InstantiationArgument::Fill(_) => Ok(()),

@@ -22,7 +22,7 @@ pub(crate) fn use_path(mentions: &mut Mentions<'_>, path: &UsePath<'_>) -> Resul
 }
 
 /// Notes what an item mentions.
-fn interface_item(mentions: &mut Mentions<'_>, item: &InterfaceItem<'_>) -> Result<(), AllocError>
+fn interface_item(item: &InterfaceItem<'_>, mentions: &mut Mentions<'_>) -> Result<(), AllocError>
     ensures { OnOk result (Notes mentions.old mentions.new
         (interface_item_mentions mentions.old.own (interface_item_of item.now))) }
 {
@@ -34,14 +34,14 @@ fn interface_item(mentions: &mut Mentions<'_>, item: &InterfaceItem<'_>) -> Resu
 
 /// Notes what the items of an interface mention.
 pub(crate) fn interface_items(
-    mentions: &mut Mentions<'_>,
     items: &[InterfaceItem<'_>],
+    mentions: &mut Mentions<'_>,
 ) -> Result<(), AllocError>
     ensures { OnOk result (Notes mentions.old mentions.new
         (interface_mentions mentions.old.own (map interface_item_of items.now))) }
 {
     for item in items {
-        interface_item(mentions, item)?;
+        interface_item(item, mentions)?;
     }
     Ok(())
 }

@@ -31,64 +31,64 @@ pub(crate) fn target(
 }
 
 /// Notes what the type of an import mentions.
-fn import_type(mentions: &mut Mentions<'_>, ty: &ImportType<'_>) -> Result<(), AllocError>
+fn import_type(ty: &ImportType<'_>, mentions: &mut Mentions<'_>) -> Result<(), AllocError>
     ensures { OnOk result (Notes mentions.old mentions.new
         (import_type_mentions mentions.old.own (import_type_of ty.now))) }
 {
     match ty {
         ImportType::Package(path) => mentions.path(path),
-        ImportType::Interface(interface) => interface_items(mentions, &interface.items),
+        ImportType::Interface(interface) => interface_items(&interface.items, mentions),
         ImportType::Func(_) | ImportType::Ident(_) => Ok(()),
     }
 }
 
 /// Notes what a declaration mentions.
 fn type_statement(
-    mentions: &mut Mentions<'_>,
     declaration: &TypeStatement<'_>,
+    mentions: &mut Mentions<'_>,
 ) -> Result<(), AllocError>
     ensures { OnOk result (Notes mentions.old mentions.new
         (type_mentions mentions.old.own (type_statement_of declaration.now))) }
 {
     match declaration {
-        TypeStatement::Interface(interface) => interface_items(mentions, &interface.items),
+        TypeStatement::Interface(interface) => interface_items(&interface.items, mentions),
         TypeStatement::World(declared) => world(declared, mentions),
         TypeStatement::Ty(_) => Ok(()),
     }
 }
 
 /// Notes what a statement mentions.
-fn statement(mentions: &mut Mentions<'_>, statement: &Statement<'_>) -> Result<(), AllocError>
+fn statement(statement: &Statement<'_>, mentions: &mut Mentions<'_>) -> Result<(), AllocError>
     ensures { OnOk result (Notes mentions.old mentions.new
         (statement_mentions mentions.old.own (statement_of statement.now))) }
 {
     match statement {
-        Statement::Import(import) => import_type(mentions, &import.ty),
-        Statement::Ty(declaration) => type_statement(mentions, declaration),
-        Statement::Let(binding) => expression(mentions, &binding.expr),
-        Statement::Export(export) => expression(mentions, &export.expr),
+        Statement::Import(import) => import_type(&import.ty, mentions),
+        Statement::Ty(declaration) => type_statement(declaration, mentions),
+        Statement::Let(binding) => expression(&binding.expr, mentions),
+        Statement::Export(export) => expression(&export.expr, mentions),
     }
 }
 
 /// Notes what statements mention.
-fn statements(mentions: &mut Mentions<'_>, statements: &[Statement<'_>]) -> Result<(), AllocError>
+fn statements(statements: &[Statement<'_>], mentions: &mut Mentions<'_>) -> Result<(), AllocError>
     ensures { OnOk result (Notes mentions.old mentions.new
         (flat_map (statement_mentions mentions.old.own) (map statement_of statements.now))) }
 {
     for next in statements {
-        statement(mentions, next)?;
+        statement(next, mentions)?;
     }
     Ok(())
 }
 
 /// Notes what lent statements mention.
 pub(crate) fn all_statements(
-    mentions: &mut Mentions<'_>,
     all: Statements<'_, '_>,
+    mentions: &mut Mentions<'_>,
 ) -> Result<(), AllocError>
     ensures { OnOk result (Notes mentions.old mentions.new
         (flat_map (statement_mentions mentions.old.own) (map statement_of all.entry))) }
 {
     let all = all.all;
-    statements(mentions, all)
+    statements(all, mentions)
 }

@@ -12,24 +12,24 @@ use wac_ast_uses::WorldRef;
 use wac_ast_worlds::{ExternType, WorldDecl, WorldItem, WorldItemPath};
 
 /// Notes what the type of a named item mentions.
-fn extern_type(mentions: &mut Mentions<'_>, ty: &ExternType<'_>) -> Result<(), AllocError>
+fn extern_type(ty: &ExternType<'_>, mentions: &mut Mentions<'_>) -> Result<(), AllocError>
     ensures { OnOk result (Notes mentions.old mentions.new
         (extern_type_mentions mentions.old.own (extern_type_of ty.now))) }
 {
     match ty {
-        ExternType::Interface(interface) => interface_items(mentions, &interface.items),
+        ExternType::Interface(interface) => interface_items(&interface.items, mentions),
         ExternType::Ident(_) | ExternType::Func(_) => Ok(()),
     }
 }
 
 /// Notes what an import or export of a world mentions.
-fn world_item_path(mentions: &mut Mentions<'_>, path: &WorldItemPath<'_>) -> Result<(), AllocError>
+fn world_item_path(path: &WorldItemPath<'_>, mentions: &mut Mentions<'_>) -> Result<(), AllocError>
     ensures { OnOk result (Notes mentions.old mentions.new
         (extern_mentions mentions.old.own (world_item_path_of path.now))) }
 {
     match path {
         WorldItemPath::Package(path) => mentions.path(path),
-        WorldItemPath::Named(named) => extern_type(mentions, &named.ty),
+        WorldItemPath::Named(named) => extern_type(&named.ty, mentions),
         WorldItemPath::Ident(_) => Ok(()),
     }
 }
@@ -46,26 +46,26 @@ fn world_ref(mentions: &mut Mentions<'_>, world: &WorldRef<'_>) -> Result<(), Al
 }
 
 /// Notes what an item mentions.
-fn world_item(mentions: &mut Mentions<'_>, item: &WorldItem<'_>) -> Result<(), AllocError>
+fn world_item(item: &WorldItem<'_>, mentions: &mut Mentions<'_>) -> Result<(), AllocError>
     ensures { OnOk result (Notes mentions.old mentions.new
         (world_item_mentions mentions.old.own (world_item_of item.now))) }
 {
     match item {
         WorldItem::Use(used) => use_path(mentions, &used.path),
-        WorldItem::Import(import) => world_item_path(mentions, &import.path),
-        WorldItem::Export(export) => world_item_path(mentions, &export.path),
+        WorldItem::Import(import) => world_item_path(&import.path, mentions),
+        WorldItem::Export(export) => world_item_path(&export.path, mentions),
         WorldItem::Include(include) => world_ref(mentions, &include.world),
         WorldItem::Ty(_) => Ok(()),
     }
 }
 
 /// Notes what the items of a world mention.
-fn world_items(mentions: &mut Mentions<'_>, items: &[WorldItem<'_>]) -> Result<(), AllocError>
+fn world_items(items: &[WorldItem<'_>], mentions: &mut Mentions<'_>) -> Result<(), AllocError>
     ensures { OnOk result (Notes mentions.old mentions.new
         (flat_map (world_item_mentions mentions.old.own) (map world_item_of items.now))) }
 {
     for item in items {
-        world_item(mentions, item)?;
+        world_item(item, mentions)?;
     }
     Ok(())
 }
@@ -82,5 +82,5 @@ pub(crate) fn world(world: &WorldDecl<'_>, mentions: &mut Mentions<'_>) -> Resul
     ensures { OnOk result (Notes mentions.old mentions.new
         (flat_map (world_item_mentions mentions.old.own) (world_decl_of world.now).items)) }
 {
-    world_items(mentions, items_of(world))
+    world_items(items_of(world), mentions)
 }

@@ -97,7 +97,7 @@ impl<'d, 'a> AstResolver<'d, 'a> {
         let statements = Statements {
             all: &document.statements,
         };
-        composed(alloc, &given, statements, &directive.targets)
+        composed(statements, alloc, &given, &directive.targets)
     }
 
     /// The graph of the document, as `resolve` gives it in a resolution.

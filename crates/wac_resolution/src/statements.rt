@@ -16,11 +16,11 @@ use wac_resolution_statements::{Externs, export_statement, let_statement};
 
 /// Executes a statement.
 fn statement<'a, R: Rules>(
+    statement: &Statement<'a>,
     state: &mut State,
     given: &Given<'_, R>,
     root: &mut Root<'a>,
     externs: &mut Externs,
-    statement: &Statement<'a>,
 ) -> Result<(), Error>
     requires { Stand given.now.context.now state.old.graph root.old externs.old }
     ensures ok { OnOk result (StatementRun given.now.context.now (rules_of R.Rules given.now.rules.now) state.old.graph
@@ -29,29 +29,29 @@ fn statement<'a, R: Rules>(
         state.old.graph root.old externs.old (statement_of statement.now) e) }
 {
     match statement {
-        Statement::Import(import) => import_statement(state, given, root, externs, import),
+        Statement::Import(import) => import_statement(import, state, given, root, externs),
         Statement::Ty(declaration) => {
-            type_statement(state, given.context, root, externs, declaration)
+            type_statement(declaration, state, given.context, root, externs)
         }
-        Statement::Let(binding) => let_statement(state, given, root, binding),
+        Statement::Let(binding) => let_statement(binding, state, given, root),
         Statement::Export(export) => {
             let scope = Scope {
                 context: given.context,
                 rules: given.rules,
                 root,
             };
-            export_statement(state, &scope, externs, export)
+            export_statement(export, state, &scope, externs)
         }
     }
 }
 
 /// Executes statements in order, up to the first that breaks a rule.
 pub(crate) fn compose<'a, R: Rules>(
+    statements: &[Statement<'a>],
     state: &mut State,
     given: &Given<'_, R>,
     root: &mut Root<'a>,
     externs: &mut Externs,
-    statements: &[Statement<'a>],
 ) -> Result<(), Error>
     requires { Stand given.now.context.now state.old.graph root.old externs.old }
     ensures ok { OnOk result (StatementsRun given.now.context.now (rules_of R.Rules given.now.rules.now)
@@ -60,7 +60,7 @@ pub(crate) fn compose<'a, R: Rules>(
         state.old.graph root.old externs.old (map statement_of statements.now) e) }
 {
     for next in statements {
-        statement(state, given, root, externs, next)?;
+        statement(next, state, given, root, externs)?;
     }
     Ok(())
 }

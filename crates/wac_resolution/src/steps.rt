@@ -19,9 +19,9 @@ use wac_resolution_statements::Externs;
 
 /// Executes the statements in an empty graph, and checks the target if there is one.
 fn compose_in<'a, R: Rules>(
+    statements: Statements<'_, 'a>,
     state: &mut State,
     given: &Given<'_, R>,
-    statements: Statements<'_, 'a>,
     targets: &Option<PackagePath<'_>>,
 ) -> Result<(), Error>
     requires { state.old.graph ≡ empty }
@@ -32,7 +32,7 @@ fn compose_in<'a, R: Rules>(
 {
     let mut root: Root<'a> = Root::new(state.alloc);
     let mut externs = Externs::new(state.alloc);
-    match carry_out(state, given, &mut root, &mut externs, statements) {
+    match carry_out(statements, state, given, &mut root, &mut externs) {
         Ok(()) => {
             let scope = Scope {
                 context: given.context,
@@ -47,9 +47,9 @@ fn compose_in<'a, R: Rules>(
 
 /// The graph of statements, which the target allows if there is one.
 pub(crate) fn composed<R: Rules>(
+    statements: Statements<'_, '_>,
     alloc: Global,
     given: &Given<'_, R>,
-    statements: Statements<'_, '_>,
     targets: &Option<PackagePath<'_>>,
 ) -> Result<CompositionGraph, Error>
     ensures ok { IfOk result (λ g. Composed given.now.context.now (rules_of R.Rules given.now.rules.now)
@@ -59,7 +59,7 @@ pub(crate) fn composed<R: Rules>(
 {
     let graph = CompositionGraph::new(alloc);
     let mut state = State { alloc, graph };
-    match compose_in(&mut state, given, statements, targets) {
+    match compose_in(statements, &mut state, given, targets) {
         Ok(()) => Ok(state.graph),
         Err(error) => Err(error),
     }

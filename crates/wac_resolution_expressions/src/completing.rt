@@ -58,10 +58,10 @@ fn misfitting(
 
 /// Rejects an argument that doesn't fit.
 fn check_fit<R: Rules>(
+    new: &NewExpr<'_>,
     state: &State,
     scope: &Scope<'_, '_, R>,
     world: WorldId,
-    new: &NewExpr<'_>,
     given: &IndexMap<String, NodeId>,
 ) -> Result<(), Error>
     requires agrees { Agrees state.now.graph scope.now.root.now }
@@ -77,7 +77,7 @@ fn check_fit<R: Rules>(
 {
     match misfit(state, scope.rules, world, given) {
         Some((name, reason)) => {
-            let place = place(state, scope.root, world, &new.arguments, name);
+            let place = place(&new.arguments, state, scope.root, world, name);
             let span = place.unwrap_or(new.package.span);
             Err(misfitting(state.alloc, &new.package, name, reason, span)?)
         }
@@ -87,10 +87,10 @@ fn check_fit<R: Rules>(
 
 /// Rejects an argument that doesn't fit, and an import that is left out.
 fn check_arguments<R: Rules>(
+    new: &NewExpr<'_>,
     state: &State,
     scope: &Scope<'_, '_, R>,
     world: WorldId,
-    new: &NewExpr<'_>,
     given: &IndexMap<String, NodeId>,
 ) -> Result<(), Error>
     requires agrees { Agrees state.now.graph scope.now.root.now }
@@ -104,17 +104,17 @@ fn check_arguments<R: Rules>(
         (numbers_of scope.now.root.now.nodes) world (package_name_of new.now.«package»)
         (arguments_from (map argument_of new.now.arguments.items)) (by_name given.now.entries) e) }
 {
-    check_fit(state, scope, world, new, given)?;
-    check_complete(state, &new.package, world, &new.arguments, given)
+    check_fit(new, state, scope, world, given)?;
+    check_complete(&new.arguments, state, &new.package, world, given)
 }
 
 /// Gives what spreads give, and makes the instance if each argument is right.
 #[inline(never)]
 pub fn complete<R: Rules>(
+    new: &NewExpr<'_>,
     state: &mut State,
     scope: &Scope<'_, '_, R>,
     of: Loaded,
-    new: &NewExpr<'_>,
     given: &mut IndexMap<String, NodeId>,
 ) -> Result<NodeId, Error>
     requires agrees { Agrees state.old.graph scope.now.root.now }
@@ -129,7 +129,7 @@ pub fn complete<R: Rules>(
         (numbers_of scope.now.root.now.nodes) of.world (package_name_of new.now.«package»)
         (arguments_from (map argument_of new.now.arguments.items)) (by_name given.old.entries) e) }
 {
-    spreads(state, scope.root, of.world, &new.arguments, given)?;
-    check_arguments(state, scope, of.world, new, given)?;
+    spreads(&new.arguments, state, scope.root, of.world, given)?;
+    check_arguments(new, state, scope, of.world, given)?;
     Ok(instantiate(state, of.id, given)?)
 }

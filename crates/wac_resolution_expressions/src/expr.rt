@@ -35,9 +35,9 @@ struct NextArgument<'x, 'a> {
 /// The node that an expression denotes.
 #[cycle(expression)]
 pub fn expression<R: Rules>(
+    expr: &Expr<'_>,
     state: &mut State,
     scope: &Scope<'_, '_, R>,
-    expr: &Expr<'_>,
 ) -> Result<NodeId, Error>
     requires agrees { Agrees state.old.graph scope.now.root.now }
     requires supplied { AllSupplied (packages_in scope.now.context.now) state.old.graph }
@@ -46,16 +46,16 @@ pub fn expression<R: Rules>(
     ensures err { ErrorSays result (λ e. ExprBreaks scope.now.context.now (rules_of R.Rules scope.now.rules.now)
         state.old.graph (numbers_of scope.now.root.now.nodes) (expr_of expr.now) e) }
 {
-    let node = primary(state, scope, &expr.primary)?;
+    let node = primary(&expr.primary, state, scope)?;
     accesses(state, node, expr.primary.span(), &expr.postfix)
 }
 
 /// The node that the beginning of an expression denotes.
 #[cycle(expression)]
 fn primary<R: Rules>(
+    expr: &PrimaryExpr<'_>,
     state: &mut State,
     scope: &Scope<'_, '_, R>,
-    expr: &PrimaryExpr<'_>,
 ) -> Result<NodeId, Error>
     requires agrees { Agrees state.old.graph scope.now.root.now }
     requires supplied { AllSupplied (packages_in scope.now.context.now) state.old.graph }
@@ -65,8 +65,8 @@ fn primary<R: Rules>(
         state.old.graph (numbers_of scope.now.root.now.nodes) (primary_expr_of expr.now) e) }
 {
     match expr {
-        PrimaryExpr::New(part) => instantiation(state, scope, part),
-        PrimaryExpr::Nested(nested) => expression(state, scope, &nested.inner),
+        PrimaryExpr::New(part) => instantiation(part, state, scope),
+        PrimaryExpr::Nested(nested) => expression(&nested.inner, state, scope),
         PrimaryExpr::Ident(id) => scope.root.node(state.alloc, id),
     }
 }
@@ -75,9 +75,9 @@ fn primary<R: Rules>(
 #[cycle(expression)]
 #[inline(never)]
 fn instantiation<R: Rules>(
+    new: &NewExpr<'_>,
     state: &mut State,
     scope: &Scope<'_, '_, R>,
-    new: &NewExpr<'_>,
 ) -> Result<NodeId, Error>
     requires agrees { Agrees state.old.graph scope.now.root.now }
     requires supplied { AllSupplied (packages_in scope.now.context.now) state.old.graph }
@@ -88,17 +88,17 @@ fn instantiation<R: Rules>(
 {
     let of = instantiable(state, scope.context, &new.package)?;
     let mut given = IndexMap::new(state.alloc);
-    arguments(state, scope, of.world, &new.arguments, &mut given)?;
-    complete(state, scope, of, new, &mut given)
+    arguments(&new.arguments, state, scope, of.world, &mut given)?;
+    complete(new, state, scope, of, &mut given)
 }
 
 /// Gives the arguments that aren't spreads, in order.
 #[cycle(expression)]
 fn arguments<R: Rules>(
+    arguments: &[InstantiationArgument<'_>],
     state: &mut State,
     scope: &Scope<'_, '_, R>,
     world: WorldId,
-    arguments: &[InstantiationArgument<'_>],
     given: &mut IndexMap<String, NodeId>,
 ) -> Result<(), Error>
     requires agrees { Agrees state.old.graph scope.now.root.now }
@@ -148,7 +148,7 @@ fn argument<R: Rules>(
         InstantiationArgument::Inferred(id) => give_inferred(state, scope.root, world, id, given),
         InstantiationArgument::Spread(_) => Ok(()),
         InstantiationArgument::Named(named) => {
-            let node = expression(state, scope, &named.expr)?;
+            let node = expression(&named.expr, state, scope)?;
             give_named(state, world, &named.name, node, given)
         }
         InstantiationArgument::Fill(span) => check_last(next.is_last, *span),

@@ -62,10 +62,10 @@ fn left_out<'x>(
 
 /// Rejects an import that is left out, where there is no `...`.
 pub fn check_complete(
+    arguments: &[InstantiationArgument<'_>],
     state: &State,
     package: &PackageName<'_>,
     world: WorldId,
-    arguments: &[InstantiationArgument<'_>],
     given: &IndexMap<String, NodeId>,
 ) -> Result<(), Error>
     requires world { Names state.now.graph.types (ItemKind.Component world) }

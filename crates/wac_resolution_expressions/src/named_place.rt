@@ -24,10 +24,10 @@ fn if_named(text: &str, span: SourceSpan, name: &str) -> Option<SourceSpan>
 
 /// The place of an argument, if it is for this name.
 fn place_named<'x>(
+    argument: &'x InstantiationArgument<'_>,
     state: &'x State,
     root: &Root<'_>,
     world: WorldId,
-    argument: &'x InstantiationArgument<'_>,
     name: &str,
 ) -> Option<SourceSpan>
     requires agrees { Agrees state.now.graph root.now }
@@ -36,7 +36,7 @@ fn place_named<'x>(
         → look_up name.now (argument_place (composed naming state.now.graph root.now)
         (imports_at naming state.now.graph world) (argument_of argument.now)) ≡ result }
 {
-    match own_place(state, root, world, argument) {
+    match own_place(argument, state, root, world) {
         Some(place) => if_named(place.0, place.1, name),
         None => None,
     }
@@ -44,10 +44,10 @@ fn place_named<'x>(
 
 /// The place of a name's argument, if it isn't a spread.
 pub fn own_places<'x>(
+    arguments: &'x [InstantiationArgument<'_>],
     state: &'x State,
     root: &Root<'_>,
     world: WorldId,
-    arguments: &'x [InstantiationArgument<'_>],
     name: &str,
 ) -> Option<SourceSpan>
     requires agrees { Agrees state.now.graph root.now }
@@ -57,7 +57,7 @@ pub fn own_places<'x>(
         (imports_at naming state.now.graph world) (arguments_from (map argument_of arguments.now))) ≡ result }
 {
     for argument in arguments {
-        match place_named(state, root, world, argument, name) {
+        match place_named(argument, state, root, world, name) {
             Some(span) => return Some(span),
             None => {}
         }

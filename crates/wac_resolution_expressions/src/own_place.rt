@@ -41,10 +41,10 @@ fn inferred_place<'x>(
 
 /// The name for which an argument is given, and its place; none for a spread or `...`.
 pub fn own_place<'x>(
+    argument: &'x InstantiationArgument<'_>,
     state: &'x State,
     root: &Root<'_>,
     world: WorldId,
-    argument: &'x InstantiationArgument<'_>,
 ) -> Option<(&'x str, SourceSpan)>
     requires agrees { Agrees state.now.graph root.now }
     requires world { Names state.now.graph.types (ItemKind.Component world) }

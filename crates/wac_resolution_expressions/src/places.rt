@@ -54,9 +54,9 @@ fn spread_place(state: &State, root: &Root<'_>, id: &Ident<'_>, name: &str) -> O
 
 /// The place of an argument, if it is a spread of an instance that exports the name.
 fn if_spread(
+    argument: &InstantiationArgument<'_>,
     state: &State,
     root: &Root<'_>,
-    argument: &InstantiationArgument<'_>,
     name: &str,
 ) -> Option<SourceSpan>
     requires { Agrees state.now.graph root.now }
@@ -72,9 +72,9 @@ fn if_spread(
 
 /// The place of the first spread of an instance that exports the name.
 fn spread_places(
+    arguments: &[InstantiationArgument<'_>],
     state: &State,
     root: &Root<'_>,
-    arguments: &[InstantiationArgument<'_>],
     name: &str,
 ) -> Option<SourceSpan>
     requires { Agrees state.now.graph root.now }
@@ -83,7 +83,7 @@ fn spread_places(
         (spreads_of (arguments_from (map argument_of arguments.now)))) ≡ result }
 {
     for argument in arguments {
-        match if_spread(state, root, argument, name) {
+        match if_spread(argument, state, root, name) {
             Some(span) => return Some(span),
             None => {}
         }
@@ -93,10 +93,10 @@ fn spread_places(
 
 /// The place of a name's argument: the argument itself, else the first spread of an instance that exports the name.
 pub fn place(
+    arguments: &[InstantiationArgument<'_>],
     state: &State,
     root: &Root<'_>,
     world: WorldId,
-    arguments: &[InstantiationArgument<'_>],
     name: &str,
 ) -> Option<SourceSpan>
     requires agrees { Agrees state.now.graph root.now }
@@ -105,8 +105,8 @@ pub fn place(
         → look_up name.now (argument_places (composed naming state.now.graph root.now)
         (imports_at naming state.now.graph world) (arguments_from (map argument_of arguments.now))) ≡ result }
 {
-    match own_places(state, root, world, arguments, name) {
+    match own_places(arguments, state, root, world, name) {
         Some(span) => Some(span),
-        None => spread_places(state, root, arguments, name),
+        None => spread_places(arguments, state, root, name),
     }
 }

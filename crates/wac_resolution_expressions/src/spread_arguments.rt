@@ -71,10 +71,10 @@ fn spread(
 
 /// Gives what an argument gives, if it is a spread.
 fn spread_argument(
+    argument: &InstantiationArgument<'_>,
     state: &mut State,
     root: &Root<'_>,
     world: WorldId,
-    argument: &InstantiationArgument<'_>,
     given: &mut IndexMap<String, NodeId>,
 ) -> Result<(), Error>
     requires agrees { Agrees state.old.graph root.now }
@@ -101,10 +101,10 @@ fn spread_argument(
 
 /// Gives what the spreads among the arguments give, in order.
 pub fn spreads(
+    arguments: &[InstantiationArgument<'_>],
     state: &mut State,
     root: &Root<'_>,
     world: WorldId,
-    arguments: &[InstantiationArgument<'_>],
     given: &mut IndexMap<String, NodeId>,
 ) -> Result<(), Error>
     requires agrees { Agrees state.old.graph root.now }
@@ -121,7 +121,7 @@ pub fn spreads(
         (spreads_of (arguments_from (map argument_of arguments.now)))) }
 {
     for argument in arguments {
-        spread_argument(state, root, world, argument, given)?;
+        spread_argument(argument, state, root, world, given)?;
     }
     Ok(())
 }

@@ -15,10 +15,10 @@ use wac_resolution_state::{Scope, State};
 
 /// Exports what an export statement says of the node of an expression.
 pub fn export_statement<R: Rules>(
+    statement: &ExportStatement<'_>,
     state: &mut State,
     scope: &Scope<'_, '_, R>,
     externs: &mut Externs,
-    statement: &ExportStatement<'_>,
 ) -> Result<(), Error>
     requires { Stand scope.now.context.now state.old.graph scope.now.root.now externs.old }
     ensures ok { OnOk result (StatementRun scope.now.context.now (rules_of R.Rules scope.now.rules.now) state.old.graph
@@ -30,7 +30,7 @@ pub fn export_statement<R: Rules>(
 {
     // Its contract says that the graph is sound.
     let _before = state.graph.nodes();
-    let node = expression(state, scope, &statement.expr)?;
+    let node = expression(&statement.expr, state, scope)?;
     let exported = ExportedNode {
         node,
         span: statement.expr.span,

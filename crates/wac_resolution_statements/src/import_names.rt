@@ -72,8 +72,8 @@ fn named_by_id<'x>(state: &'x State, kind: ItemKind, own: &'x str) -> &'x str
 
 /// The name of an import for which none is written.
 fn unnamed_import<'x>(
-    state: &'x State,
     statement: &'x ImportStatement<'_>,
+    state: &'x State,
     kind: ItemKind,
 ) -> &'x str
     requires { Names state.now.graph.types kind }
@@ -90,8 +90,8 @@ fn unnamed_import<'x>(
 
 /// The name of an import: the one that is written, else that of what is imported.
 fn name_imported<'x>(
-    state: &'x State,
     statement: &'x ImportStatement<'_>,
+    state: &'x State,
     kind: ItemKind,
 ) -> &'x str
     requires { Names state.now.graph.types kind }
@@ -100,14 +100,14 @@ fn name_imported<'x>(
 {
     match &statement.name {
         Some(name) => name.as_str(),
-        None => unnamed_import(state, statement, kind),
+        None => unnamed_import(statement, state, kind),
     }
 }
 
 /// The name of an import, copied.
 pub fn import_name(
-    state: &State,
     statement: &ImportStatement<'_>,
+    state: &State,
     kind: ItemKind,
 ) -> Result<String, AllocError>
     requires { Names state.now.graph.types kind }
@@ -115,7 +115,7 @@ pub fn import_name(
         → string_bytes s ≡ rules.name_imported (import_statement_of statement.now)
         (means naming state.now.graph kind)) }
 {
-    String::from_str(state.alloc, name_imported(state, statement, kind))
+    String::from_str(state.alloc, name_imported(statement, state, kind))
 }
 
 /// The place of the name of an import for which none is written.

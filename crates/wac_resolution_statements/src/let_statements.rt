@@ -20,10 +20,10 @@ use wac_resolution_state::{Given, Root, Scope, State};
 /// Binds the identifier of a `let` to the node of its expression. Nothing is imported or exported, so it needs no
 /// places of imports and exports; its contract says that they stay those of the graph.
 pub fn let_statement<'a, R: Rules>(
+    statement: &LetStatement<'a>,
     state: &mut State,
     given: &Given<'_, R>,
     root: &mut Root<'a>,
-    statement: &LetStatement<'a>,
 ) -> Result<(), Error>
     requires agrees { Agrees state.old.graph root.old }
     requires supplied { AllSupplied (packages_in given.now.context.now) state.old.graph }
@@ -41,7 +41,7 @@ pub fn let_statement<'a, R: Rules>(
         rules: given.rules,
         root: &*root,
     };
-    let node = expression(state, &scope, &statement.expr)?;
+    let node = expression(&statement.expr, state, &scope)?;
     root.bind(state, &statement.id, node)?;
     // It still is.
     let _after = state.graph.nodes();

@@ -139,7 +139,7 @@ fn alias_of_expression(
     ensures err { ErrorSays result (λ e. (naming : Naming)
         → TypeBroken (scope_of naming state.old.graph (values_of names.now)) (ty_of ty.now) e) }
 {
-    let value = value_type(state, names, ty)?;
+    let value = value_type(ty, state, names)?;
     Ok(state.add_defined(DefinedType::Alias(value))?)
 }
 
@@ -171,11 +171,11 @@ fn alias_of_type(
 
 /// An alias of this name.
 pub fn alias(
+    kind: &TypeAliasKind<'_>,
     state: &mut State,
     names: &Names<'_, ItemKind>,
     place: Place,
     name: &str,
-    kind: &TypeAliasKind<'_>,
 ) -> Result<ItemKind, Error>
     requires { ItemsNamed state.old.graph.types (values_of names.now) }
     ensures ok { IfOk result (λ k. KindAdded state.old.graph state.new.graph
@@ -189,7 +189,7 @@ pub fn alias(
     match kind {
         TypeAliasKind::Func(func) => {
             let first = IndexMap::new(state.alloc);
-            let func = function(state, names, FuncKind::Free, first, func)?;
+            let func = function(func, state, names, FuncKind::Free, first)?;
             Ok(ItemKind::Ty(Type::Func(func)))
         }
         TypeAliasKind::Ty(ty) => Ok(alias_of_type(state, names, place, name, ty)?),

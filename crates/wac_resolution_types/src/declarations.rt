@@ -23,9 +23,9 @@ use wac_resolution_state::{Names, State};
 
 /// The kind that a declaration at root declares.
 pub fn type_decl(
+    decl: &TypeDecl<'_>,
     state: &mut State,
     names: &Names<'_, ItemKind>,
-    decl: &TypeDecl<'_>,
 ) -> Result<ItemKind, Error>
     requires { ItemsNamed state.old.graph.types (values_of names.now) }
     ensures ok { IfOk result (λ k. KindAdded state.old.graph state.new.graph
@@ -36,12 +36,12 @@ pub fn type_decl(
         (type_decl_of decl.now) e) }
 {
     match decl {
-        TypeDecl::Variant(decl) => Ok(ItemKind::Ty(Type::Value(variant(state, names, decl)?))),
-        TypeDecl::Record(decl) => Ok(ItemKind::Ty(Type::Value(record(state, names, decl)?))),
+        TypeDecl::Variant(decl) => Ok(ItemKind::Ty(Type::Value(variant(decl, state, names)?))),
+        TypeDecl::Record(decl) => Ok(ItemKind::Ty(Type::Value(record(decl, state, names)?))),
         TypeDecl::Flags(decl) => Ok(ItemKind::Ty(Type::Value(flags(state, decl)?))),
         TypeDecl::Enum(decl) => Ok(ItemKind::Ty(Type::Value(enumeration(state, decl)?))),
         TypeDecl::Alias(decl) => {
-            Ok(alias(state, names, Place::Root, decl.id.string, &decl.kind)?)
+            Ok(alias(&decl.kind, state, names, Place::Root, decl.id.string)?)
         }
     }
 }

@@ -82,11 +82,11 @@ fn method_params(
 
 /// Takes a parameter.
 fn take_param(
+    param: &NamedType<'_>,
     state: &mut State,
     names: &Names<'_, ItemKind>,
     kind: FuncKind,
     all: &mut IndexMap<String, ValueType>,
-    param: &NamedType<'_>,
 ) -> Result<(), Error>
     requires scope { ItemsNamed state.old.graph.types (values_of names.now) }
     requires parts { TypesNamed state.old.graph.types (by_name all.old.entries) }
@@ -96,7 +96,7 @@ fn take_param(
         → ParamBroken kind (scope_of naming state.old.graph (values_of names.now)) e
         (types_named naming state.old.graph (by_name all.old.entries)) before (named_type_of param.now)) }
 {
-    let value = value_type(state, names, &param.ty)?;
+    let value = value_type(&param.ty, state, names)?;
     check_param(state.alloc, kind, all, &param.id)?;
     push(state.alloc, all, param.id.string, value)?;
     Ok(())
@@ -104,11 +104,11 @@ fn take_param(
 
 /// Takes parameters in order.
 fn take_params(
+    params: &[NamedType<'_>],
     state: &mut State,
     names: &Names<'_, ItemKind>,
     kind: FuncKind,
     all: &mut IndexMap<String, ValueType>,
-    params: &[NamedType<'_>],
 ) -> Result<(), Error>
     requires scope { ItemsNamed state.old.graph.types (values_of names.now) }
     requires parts { TypesNamed state.old.graph.types (by_name all.old.entries) }
@@ -119,18 +119,18 @@ fn take_params(
         (types_named naming state.old.graph (by_name all.old.entries)) (map named_type_of params.now) e) }
 {
     for param in params {
-        take_param(state, names, kind, all, param)?;
+        take_param(param, state, names, kind, all)?;
     }
     Ok(())
 }
 
 /// Adds a function type, where these parameters come first.
 pub fn function(
+    func: &FuncType<'_>,
     state: &mut State,
     names: &Names<'_, ItemKind>,
     kind: FuncKind,
     first: IndexMap<String, ValueType>,
-    func: &FuncType<'_>,
 ) -> Result<FuncTypeId, Error>
     requires scope { ItemsNamed state.old.graph.types (values_of names.now) }
     requires parts { TypesNamed state.old.graph.types (by_name first.entries) }
@@ -141,8 +141,8 @@ pub fn function(
         (types_named naming state.old.graph (by_name first.entries)) (func_type_of func.now) e) }
 {
     let mut params = first;
-    take_params(state, names, kind, &mut params, &func.params)?;
-    let results = results(state, names, kind, &func.results)?;
+    take_params(&func.params, state, names, kind, &mut params)?;
+    let results = results(&func.results, state, names, kind)?;
     let is_async = func.is_async;
     Ok(state.add_func(wac_graph::FuncType {
         params,
@@ -153,10 +153,10 @@ pub fn function(
 
 /// Adds the function type of a constructor of a resource.
 pub fn constructor(
+    params: &[NamedType<'_>],
     state: &mut State,
     names: &Names<'_, ItemKind>,
     resource: ResourceId,
-    params: &[NamedType<'_>],
 ) -> Result<FuncTypeId, Error>
     requires scope { ItemsNamed state.old.graph.types (values_of names.now) }
     requires resource { NamesEntry state.old.graph.types (kinds.Ty (types.Resource resource)) }
@@ -167,7 +167,7 @@ pub fn constructor(
         (map named_type_of params.now) e) }
 {
     let mut all = IndexMap::new(state.alloc);
-    take_params(state, names, FuncKind::Constructor, &mut all, params)?;
+    take_params(params, state, names, FuncKind::Constructor, &mut all)?;
     Ok(state.add_func(wac_graph::FuncType {
         params: all,
         results: FuncResults::Scalar(ValueType::Own(resource)),
@@ -177,11 +177,11 @@ pub fn constructor(
 
 /// Adds the function type of a method of a resource.
 pub fn method(
+    func: &FuncType<'_>,
     state: &mut State,
     names: &Names<'_, ItemKind>,
     resource: ResourceId,
     is_static: bool,
-    func: &FuncType<'_>,
 ) -> Result<FuncTypeId, Error>
     requires scope { ItemsNamed state.old.graph.types (values_of names.now) }
     requires resource { NamesEntry state.old.graph.types (kinds.Ty (types.Resource resource)) }
@@ -193,5 +193,5 @@ pub fn method(
         (first_params is_static (entry_means naming state.old.graph resource.0)) (func_type_of func.now) e) }
 {
     let first = method_params(state.alloc, is_static, resource)?;
-    function(state, names, kind_of_method(is_static), first, func)
+    function(func, state, names, kind_of_method(is_static), first)
 }

@@ -22,10 +22,10 @@ use wac_resolution_state::State;
 
 /// Takes a variant.
 fn variant<'a>(
+    decl: &VariantDecl<'a>,
     state: &mut State,
     body: &mut Body<'a>,
     section: &Section<'_>,
-    decl: &VariantDecl<'a>,
 ) -> Result<(), Error>
     requires { IsBody state.old.graph.types section.now.side (lists_of body.old) }
     ensures ok { OnOk result (DeclarationStep section.now.side state.old.graph state.new.graph (lists_of body.old)
@@ -34,7 +34,7 @@ fn variant<'a>(
         → ItemBroken naming (owner_of section.now.owner) section.now.side (places_of body.old.names)
         (body_of naming state.old.graph body.old) (ItemTree.variant (variant_decl_of decl.now)) e) }
 {
-    let value = crate::variant(state, &body.names, decl)?;
+    let value = crate::variant(decl, state, &body.names)?;
     let kind = ItemKind::Ty(Type::Value(value));
     declare(state.alloc, body, section, &decl.id, kind)?;
     Ok(())
@@ -42,10 +42,10 @@ fn variant<'a>(
 
 /// Takes a record.
 fn record<'a>(
+    decl: &RecordDecl<'a>,
     state: &mut State,
     body: &mut Body<'a>,
     section: &Section<'_>,
-    decl: &RecordDecl<'a>,
 ) -> Result<(), Error>
     requires { IsBody state.old.graph.types section.now.side (lists_of body.old) }
     ensures ok { OnOk result (DeclarationStep section.now.side state.old.graph state.new.graph (lists_of body.old)
@@ -54,7 +54,7 @@ fn record<'a>(
         → ItemBroken naming (owner_of section.now.owner) section.now.side (places_of body.old.names)
         (body_of naming state.old.graph body.old) (ItemTree.record_decl (record_decl_of decl.now)) e) }
 {
-    let value = crate::record(state, &body.names, decl)?;
+    let value = crate::record(decl, state, &body.names)?;
     let kind = ItemKind::Ty(Type::Value(value));
     declare(state.alloc, body, section, &decl.id, kind)?;
     Ok(())
@@ -102,10 +102,10 @@ fn enumeration<'a>(
 
 /// Takes an alias.
 fn alias<'a>(
+    decl: &TypeAlias<'a>,
     state: &mut State,
     body: &mut Body<'a>,
     section: &Section<'_>,
-    decl: &TypeAlias<'a>,
 ) -> Result<(), Error>
     requires { IsBody state.old.graph.types section.now.side (lists_of body.old) }
     ensures ok { OnOk result (DeclarationStep section.now.side state.old.graph state.new.graph (lists_of body.old)
@@ -114,17 +114,17 @@ fn alias<'a>(
         → ItemBroken naming (owner_of section.now.owner) section.now.side (places_of body.old.names)
         (body_of naming state.old.graph body.old) (ItemTree.alias (type_alias_of decl.now)) e) }
 {
-    let kind = crate::alias(state, &body.names, Place::Body, decl.id.string, &decl.kind)?;
+    let kind = crate::alias(&decl.kind, state, &body.names, Place::Body, decl.id.string)?;
     declare(state.alloc, body, section, &decl.id, kind)?;
     Ok(())
 }
 
 /// Takes the declaration of a type.
 pub fn item<'a>(
+    decl: &ItemTypeDecl<'a>,
     state: &mut State,
     body: &mut Body<'a>,
     section: &Section<'_>,
-    decl: &ItemTypeDecl<'a>,
 ) -> Result<(), Error>
     requires { IsBody state.old.graph.types section.now.side (lists_of body.old) }
     ensures ok { OnOk result (DeclarationStep section.now.side state.old.graph state.new.graph (lists_of body.old)
@@ -134,11 +134,11 @@ pub fn item<'a>(
         (body_of naming state.old.graph body.old) (item_type_decl_of decl.now) e) }
 {
     match decl {
-        ItemTypeDecl::Resource(decl) => resource(state, body, section, decl),
-        ItemTypeDecl::Variant(decl) => variant(state, body, section, decl),
-        ItemTypeDecl::Record(decl) => record(state, body, section, decl),
+        ItemTypeDecl::Resource(decl) => resource(decl, state, body, section),
+        ItemTypeDecl::Variant(decl) => variant(decl, state, body, section),
+        ItemTypeDecl::Record(decl) => record(decl, state, body, section),
         ItemTypeDecl::Flags(decl) => flags(state, body, section, decl),
         ItemTypeDecl::Enum(decl) => enumeration(state, body, section, decl),
-        ItemTypeDecl::Alias(decl) => alias(state, body, section, decl),
+        ItemTypeDecl::Alias(decl) => alias(decl, state, body, section),
     }
 }

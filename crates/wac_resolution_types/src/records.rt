@@ -53,11 +53,11 @@ fn check_field(
 
 /// Takes a field.
 fn take_field(
+    field: &Field<'_>,
     state: &mut State,
     names: &Names<'_, ItemKind>,
     declared: &Ident<'_>,
     all: &mut IndexMap<String, ValueType>,
-    field: &Field<'_>,
 ) -> Result<(), Error>
     requires scope { ItemsNamed state.old.graph.types (values_of names.now) }
     requires parts { TypesNamed state.old.graph.types (by_name all.old.entries) }
@@ -67,7 +67,7 @@ fn take_field(
         → FieldBroken (scope_of naming state.old.graph (values_of names.now)) (ident_of declared.now) e
         (types_named naming state.old.graph (by_name all.old.entries)) before (field_of field.now)) }
 {
-    let value = value_type(state, names, &field.ty)?;
+    let value = value_type(&field.ty, state, names)?;
     check_field(state.alloc, declared, all, &field.id)?;
     push(state.alloc, all, field.id.string, value)?;
     Ok(())
@@ -75,11 +75,11 @@ fn take_field(
 
 /// Takes fields in order.
 fn take_fields(
+    fields: &[Field<'_>],
     state: &mut State,
     names: &Names<'_, ItemKind>,
     declared: &Ident<'_>,
     all: &mut IndexMap<String, ValueType>,
-    fields: &[Field<'_>],
 ) -> Result<(), Error>
     requires scope { ItemsNamed state.old.graph.types (values_of names.now) }
     requires parts { TypesNamed state.old.graph.types (by_name all.old.entries) }
@@ -91,16 +91,16 @@ fn take_fields(
         (types_named naming state.old.graph (by_name all.old.entries)) (map field_of fields.now)) }
 {
     for field in fields {
-        take_field(state, names, declared, all, field)?;
+        take_field(field, state, names, declared, all)?;
     }
     Ok(())
 }
 
 /// Adds a record.
 pub fn record(
+    decl: &RecordDecl<'_>,
     state: &mut State,
     names: &Names<'_, ItemKind>,
-    decl: &RecordDecl<'_>,
 ) -> Result<ValueType, Error>
     requires { ItemsNamed state.old.graph.types (values_of names.now) }
     ensures ok { IfOk result (λ v. ValueAdded state.old.graph state.new.graph
@@ -110,6 +110,6 @@ pub fn record(
         → RecordBroken (scope_of naming state.old.graph (values_of names.now)) (record_decl_of decl.now) e) }
 {
     let mut fields = IndexMap::new(state.alloc);
-    take_fields(state, names, &decl.id, &mut fields, &decl.fields)?;
+    take_fields(&decl.fields, state, names, &decl.id, &mut fields)?;
     Ok(state.add_defined(DefinedType::Record { fields })?)
 }

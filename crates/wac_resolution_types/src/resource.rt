@@ -50,10 +50,10 @@ fn declare_resource<'a>(
 
 /// Takes a resource with its methods.
 pub fn resource<'a>(
+    decl: &ResourceDecl<'a>,
     state: &mut State,
     body: &mut Body<'a>,
     section: &Section<'_>,
-    decl: &ResourceDecl<'a>,
 ) -> Result<(), Error>
     requires { IsBody state.old.graph.types section.now.side (lists_of body.old) }
     ensures ok { OnOk result (DeclarationStep section.now.side state.old.graph state.new.graph (lists_of body.old)
@@ -67,6 +67,6 @@ pub fn resource<'a>(
         name: decl.id.string,
         id,
     };
-    add_methods(state, body, section.side, &resource, &decl.methods)?;
+    add_methods(&decl.methods, state, body, section.side, &resource)?;
     Ok(())
 }

@@ -76,11 +76,11 @@ fn second_method(alloc: Global, resource: &str, id: &Ident<'_>) -> Result<Error,
 
 /// The full name of a method, if the resource has no method of its name yet, static or not.
 fn new_method_name(
+    method: &Method<'_>,
     alloc: Global,
     body: &Body<'_>,
     side: ExternKind,
     resource: &str,
-    method: &Method<'_>,
 ) -> Result<String, Error>
     ensures name { IfOk result (λ n. string_bytes n
         ≡ name_of_method method.now.is_static resource.now method.now.id.string.now) }
@@ -108,11 +108,11 @@ fn new_method_name(
 
 /// Takes a constructor.
 fn add_constructor(
+    constructor: &Constructor<'_>,
     state: &mut State,
     body: &mut Body<'_>,
     side: ExternKind,
     resource: &NewResource<'_>,
-    constructor: &Constructor<'_>,
 ) -> Result<(), Error>
     requires body { IsBody state.old.graph.types side (lists_of body.old) }
     requires resource { NamesEntry state.old.graph.types (kinds.Ty (types.Resource resource.now.id)) }
@@ -124,18 +124,18 @@ fn add_constructor(
         (MethodTree.constructor (constructor_of constructor.now))) }
 {
     let full = new_constructor_name(state.alloc, body, side, resource.name, constructor.span)?;
-    let func = crate::constructor(state, &body.names, resource.id, &constructor.params)?;
+    let func = crate::constructor(&constructor.params, state, &body.names, resource.id)?;
     body.add(state.alloc, side, &full, ItemKind::Func(func))?;
     Ok(())
 }
 
 /// Takes a method, which may be static.
 fn add_method(
+    method: &Method<'_>,
     state: &mut State,
     body: &mut Body<'_>,
     side: ExternKind,
     resource: &NewResource<'_>,
-    method: &Method<'_>,
 ) -> Result<(), Error>
     requires body { IsBody state.old.graph.types side (lists_of body.old) }
     requires resource { NamesEntry state.old.graph.types (kinds.Ty (types.Resource resource.now.id)) }
@@ -145,13 +145,13 @@ fn add_method(
         → MethodBroken side resource.now.name.now (entry_means naming state.old.graph resource.now.id.0) e
         (body_of naming state.old.graph body.old) before (MethodTree.method (method_of method.now))) }
 {
-    let full = new_method_name(state.alloc, body, side, resource.name, method)?;
+    let full = new_method_name(method, state.alloc, body, side, resource.name)?;
     let func = crate::method(
+        &method.ty,
         state,
         &body.names,
         resource.id,
         method.is_static,
-        &method.ty,
     )?;
     body.add(state.alloc, side, &full, ItemKind::Func(func))?;
     Ok(())
@@ -159,11 +159,11 @@ fn add_method(
 
 /// Takes a constructor or a method.
 fn add_either(
+    method: &ResourceMethod<'_>,
     state: &mut State,
     body: &mut Body<'_>,
     side: ExternKind,
     resource: &NewResource<'_>,
-    method: &ResourceMethod<'_>,
 ) -> Result<(), Error>
     requires body { IsBody state.old.graph.types side (lists_of body.old) }
     requires resource { NamesEntry state.old.graph.types (kinds.Ty (types.Resource resource.now.id)) }
@@ -175,19 +175,19 @@ fn add_either(
 {
     match method {
         ResourceMethod::Constructor(constructor) => {
-            add_constructor(state, body, side, resource, constructor)
+            add_constructor(constructor, state, body, side, resource)
         }
-        ResourceMethod::Method(method) => add_method(state, body, side, resource, method),
+        ResourceMethod::Method(method) => add_method(method, state, body, side, resource),
     }
 }
 
 /// Takes the constructors and methods of a resource in order.
 pub(crate) fn add_methods(
+    methods: &[ResourceMethod<'_>],
     state: &mut State,
     body: &mut Body<'_>,
     side: ExternKind,
     resource: &NewResource<'_>,
-    methods: &[ResourceMethod<'_>],
 ) -> Result<(), Error>
     requires body { IsBody state.old.graph.types side (lists_of body.old) }
     requires resource { NamesEntry state.old.graph.types (kinds.Ty (types.Resource resource.now.id)) }
@@ -199,7 +199,7 @@ pub(crate) fn add_methods(
         (body_of naming state.old.graph body.old) (map resource_method_of methods.now)) }
 {
     for method in methods {
-        add_either(state, body, side, resource, method)?;
+        add_either(method, state, body, side, resource)?;
     }
     Ok(())
 }

@@ -57,7 +57,7 @@ fn check_result_name(
 }
 
 /// Rejects a result that contains a borrow.
-fn check_result(state: &State, ty: &Type<'_>, value: ValueType) -> Result<(), Error>
+fn check_result(ty: &Type<'_>, state: &State, value: ValueType) -> Result<(), Error>
     requires { NamesEntry state.now.graph.types (kinds.Value value) }
     ensures ok { OnOk result ((naming : Naming)
         → has_borrow (means naming state.now.graph (kinds.Value value)) ≡ false) }
@@ -73,9 +73,9 @@ fn check_result(state: &State, ty: &Type<'_>, value: ValueType) -> Result<(), Er
 
 /// The type of a result.
 fn result_type(
+    ty: &Type<'_>,
     state: &mut State,
     names: &Names<'_, ItemKind>,
-    ty: &Type<'_>,
 ) -> Result<ValueType, Error>
     requires { ItemsNamed state.old.graph.types (values_of names.now) }
     ensures ok { IfOk result (λ v. ResultTypeIs state.old.graph state.new.graph
@@ -83,18 +83,18 @@ fn result_type(
     ensures err { ErrorSays result (λ e. (naming : Naming)
         → ResultTypeBroken (scope_of naming state.old.graph (values_of names.now)) (ty_of ty.now) e) }
 {
-    let value = value_type(state, names, ty)?;
-    check_result(state, ty, value)?;
+    let value = value_type(ty, state, names)?;
+    check_result(ty, state, value)?;
     Ok(value)
 }
 
 /// Takes a named result.
 fn named_result(
+    named: &NamedType<'_>,
     state: &mut State,
     names: &Names<'_, ItemKind>,
     kind: FuncKind,
     all: &mut IndexMap<String, ValueType>,
-    named: &NamedType<'_>,
 ) -> Result<(), Error>
     requires scope { ItemsNamed state.old.graph.types (values_of names.now) }
     requires parts { TypesNamed state.old.graph.types (by_name all.old.entries) }
@@ -104,7 +104,7 @@ fn named_result(
         → ResultBroken kind (scope_of naming state.old.graph (values_of names.now)) e
         (types_named naming state.old.graph (by_name all.old.entries)) before (named_type_of named.now)) }
 {
-    let value = result_type(state, names, &named.ty)?;
+    let value = result_type(&named.ty, state, names)?;
     check_result_name(state.alloc, kind, all, &named.id)?;
     push(state.alloc, all, named.id.string, value)?;
     Ok(())
@@ -112,10 +112,10 @@ fn named_result(
 
 /// Takes named results in order.
 fn named_results(
+    named: &[NamedType<'_>],
     state: &mut State,
     names: &Names<'_, ItemKind>,
     kind: FuncKind,
-    named: &[NamedType<'_>],
 ) -> Result<IndexMap<String, ValueType>, Error>
     requires { ItemsNamed state.old.graph.types (values_of names.now) }
     ensures ok { IfOk result (λ all. ResultSteps state.old.graph state.new.graph (values_of names.now) []
@@ -126,17 +126,17 @@ fn named_results(
 {
     let mut all = IndexMap::new(state.alloc);
     for result in named {
-        named_result(state, names, kind, &mut all, result)?;
+        named_result(result, state, names, kind, &mut all)?;
     }
     Ok(all)
 }
 
 /// The results of a function.
 pub(crate) fn results(
+    results: &ResultList<'_>,
     state: &mut State,
     names: &Names<'_, ItemKind>,
     kind: FuncKind,
-    results: &ResultList<'_>,
 ) -> Result<FuncResults, Error>
     requires { ItemsNamed state.old.graph.types (values_of names.now) }
     ensures ok { IfOk result (λ rs. ResultsAre state.old.graph state.new.graph (values_of names.now)
@@ -146,9 +146,9 @@ pub(crate) fn results(
 {
     match results {
         ResultList::Empty => Ok(FuncResults::None),
-        ResultList::Scalar(ty) => Ok(FuncResults::Scalar(result_type(state, names, ty)?)),
+        ResultList::Scalar(ty) => Ok(FuncResults::Scalar(result_type(ty, state, names)?)),
         ResultList::Named(named) => {
-            let all = named_results(state, names, kind, named)?;
+            let all = named_results(named, state, names, kind)?;
             Ok(FuncResults::Named(all))
         }
     }

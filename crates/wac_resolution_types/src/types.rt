@@ -18,9 +18,9 @@ use wac_resolution_state::{Names, State, named_resource, named_type};
 /// The type of values that a type means.
 #[cycle(types)]
 pub fn value_type(
+    ty: &Type<'_>,
     state: &mut State,
     names: &Names<'_, ItemKind>,
-    ty: &Type<'_>,
 ) -> Result<ValueType, Error>
     requires { ItemsNamed state.old.graph.types (values_of names.now) }
     ensures ok { IfOk result (λ v. TypeIs state.old.graph state.new.graph (values_of names.now) (ty_of ty.now) v) }
@@ -42,29 +42,29 @@ pub fn value_type(
         Type::Bool(_) => Ok(ValueType::Primitive(PrimitiveType::Bool)),
         Type::String(_) => Ok(ValueType::Primitive(PrimitiveType::String)),
         Type::Tuple(types, _) => {
-            let values = value_types(state, names, types)?;
+            let values = value_types(types, state, names)?;
             Ok(state.add_defined(DefinedType::Tuple(values))?)
         }
         Type::List(inner, _) => {
-            let value = value_type(state, names, inner)?;
+            let value = value_type(inner, state, names)?;
             Ok(state.add_defined(DefinedType::List(value))?)
         }
         Type::Option(inner, _) => {
-            let value = value_type(state, names, inner)?;
+            let value = value_type(inner, state, names)?;
             Ok(state.add_defined(DefinedType::Option(value))?)
         }
         Type::Result { ok, err, .. } => {
-            let ok = optional(state, names, ok)?;
-            let err = optional(state, names, err)?;
+            let ok = optional(ok, state, names)?;
+            let err = optional(err, state, names)?;
             Ok(state.add_defined(DefinedType::Result { ok, err })?)
         }
         Type::Borrow(id, _) => Ok(ValueType::Borrow(named_resource(state.alloc, names, id)?)),
         Type::Stream(inner, _) => {
-            let value = optional(state, names, inner)?;
+            let value = optional(inner, state, names)?;
             Ok(state.add_defined(DefinedType::Stream(value))?)
         }
         Type::Future(inner, _) => {
-            let value = optional(state, names, inner)?;
+            let value = optional(inner, state, names)?;
             Ok(state.add_defined(DefinedType::Future(value))?)
         }
         Type::ErrorContext(_) => Ok(ValueType::Primitive(PrimitiveType::ErrorContext)),
@@ -75,9 +75,9 @@ pub fn value_type(
 /// The type that may be left out.
 #[cycle(types)]
 fn optional(
+    ty: &Option<Box<Type<'_>>>,
     state: &mut State,
     names: &Names<'_, ItemKind>,
-    ty: &Option<Box<Type<'_>>>,
 ) -> Result<Option<ValueType>, Error>
     requires { ItemsNamed state.old.graph.types (values_of names.now) }
     ensures ok { IfOk result (λ v. OptionalIs state.old.graph state.new.graph (values_of names.now)
@@ -86,7 +86,7 @@ fn optional(
         → OptionalBroken (scope_of naming state.old.graph (values_of names.now)) (optional_of ty.now) e) }
 {
     match ty {
-        Some(ty) => Ok(Some(value_type(state, names, ty)?)),
+        Some(ty) => Ok(Some(value_type(ty, state, names)?)),
         None => Ok(None),
     }
 }
@@ -94,9 +94,9 @@ fn optional(
 /// The types of values that types mean, in order.
 #[cycle(types)]
 fn value_types(
+    types: &[Type<'_>],
     state: &mut State,
     names: &Names<'_, ItemKind>,
-    types: &[Type<'_>],
 ) -> Result<Vec<ValueType>, Error>
     requires { ItemsNamed state.old.graph.types (values_of names.now) }
     ensures ok { IfOk result (λ vs. TypesAre state.old.graph state.new.graph (values_of names.now)
@@ -106,7 +106,7 @@ fn value_types(
 {
     let mut values = Vec::new(state.alloc);
     for ty in types {
-        let value = value_type(state, names, ty)?;
+        let value = value_type(ty, state, names)?;
         values.push(value)?;
     }
     Ok(values)

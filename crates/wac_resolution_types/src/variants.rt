@@ -54,9 +54,9 @@ fn check_case(
 
 /// The type of a case, which may have none.
 fn case_type(
+    ty: &Option<Type<'_>>,
     state: &mut State,
     names: &Names<'_, ItemKind>,
-    ty: &Option<Type<'_>>,
 ) -> Result<Option<ValueType>, Error>
     requires { ItemsNamed state.old.graph.types (values_of names.now) }
     ensures ok { IfOk result (λ v. CaseTypeIs state.old.graph state.new.graph (values_of names.now)
@@ -65,18 +65,18 @@ fn case_type(
         → OptionBroken (scope_of naming state.old.graph (values_of names.now)) (option_map ty_of ty.now) e) }
 {
     match ty {
-        Some(ty) => Ok(Some(value_type(state, names, ty)?)),
+        Some(ty) => Ok(Some(value_type(ty, state, names)?)),
         None => Ok(None),
     }
 }
 
 /// Takes a case.
 fn take_case(
+    case: &VariantCase<'_>,
     state: &mut State,
     names: &Names<'_, ItemKind>,
     declared: &Ident<'_>,
     all: &mut IndexMap<String, Option<ValueType>>,
-    case: &VariantCase<'_>,
 ) -> Result<(), Error>
     requires scope { ItemsNamed state.old.graph.types (values_of names.now) }
     requires parts { PartsNamed perhaps state.old.graph.types (by_name all.old.entries) }
@@ -86,7 +86,7 @@ fn take_case(
         → CaseBroken (scope_of naming state.old.graph (values_of names.now)) (ident_of declared.now) e
         (cases_named naming state.old.graph (by_name all.old.entries)) before (variant_case_of case.now)) }
 {
-    let value = case_type(state, names, &case.ty)?;
+    let value = case_type(&case.ty, state, names)?;
     check_case(state.alloc, declared, all, &case.id)?;
     push(state.alloc, all, case.id.string, value)?;
     Ok(())
@@ -94,11 +94,11 @@ fn take_case(
 
 /// Takes cases in order.
 fn take_cases(
+    cases: &[VariantCase<'_>],
     state: &mut State,
     names: &Names<'_, ItemKind>,
     declared: &Ident<'_>,
     all: &mut IndexMap<String, Option<ValueType>>,
-    cases: &[VariantCase<'_>],
 ) -> Result<(), Error>
     requires scope { ItemsNamed state.old.graph.types (values_of names.now) }
     requires parts { PartsNamed perhaps state.old.graph.types (by_name all.old.entries) }
@@ -110,16 +110,16 @@ fn take_cases(
         (cases_named naming state.old.graph (by_name all.old.entries)) (map variant_case_of cases.now)) }
 {
     for case in cases {
-        take_case(state, names, declared, all, case)?;
+        take_case(case, state, names, declared, all)?;
     }
     Ok(())
 }
 
 /// Adds a variant.
 pub fn variant(
+    decl: &VariantDecl<'_>,
     state: &mut State,
     names: &Names<'_, ItemKind>,
-    decl: &VariantDecl<'_>,
 ) -> Result<ValueType, Error>
     requires { ItemsNamed state.old.graph.types (values_of names.now) }
     ensures ok { IfOk result (λ v. ValueAdded state.old.graph state.new.graph
@@ -129,6 +129,6 @@ pub fn variant(
         → VariantBroken (scope_of naming state.old.graph (values_of names.now)) (variant_decl_of decl.now) e) }
 {
     let mut cases = IndexMap::new(state.alloc);
-    take_cases(state, names, &decl.id, &mut cases, &decl.cases)?;
+    take_cases(&decl.cases, state, names, &decl.id, &mut cases)?;
     Ok(state.add_defined(DefinedType::Variant { cases })?)
 }

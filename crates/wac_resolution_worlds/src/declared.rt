@@ -50,9 +50,9 @@ fn declared_id(alloc: Global, context: &Context<'_>, name: &str) -> Result<Strin
 
 /// The kind of a declared interface.
 pub fn interface_decl(
+    decl: &InterfaceDecl<'_>,
     state: &mut State,
     outer: &OuterScope<'_>,
-    decl: &InterfaceDecl<'_>,
 ) -> Result<ItemKind, Error>
     requires root { ItemsNamed state.old.graph.types (values_of outer.now.root.now) }
     requires supplied { AllSupplied (packages_in outer.now.context.now) state.old.graph }
@@ -65,7 +65,7 @@ pub fn interface_decl(
 {
     let id = declared_id(state.alloc, outer.context, decl.id.string)?;
     let name = Some(decl.id.string);
-    let declared = interface(state, outer, Some(id), name, &decl.items)?;
+    let declared = interface(&decl.items, state, outer, Some(id), name)?;
     Ok(ItemKind::Ty(Type::Interface(declared)))
 }
 
@@ -78,10 +78,10 @@ fn items_of<'x, 'a>(decl: &'x WorldDecl<'a>) -> &'x [WorldItem<'a>]
 
 /// The kind of a declared world of a name and items.
 fn world_of(
+    items: &[WorldItem<'_>],
     state: &mut State,
     outer: &OuterScope<'_>,
     name: &str,
-    items: &[WorldItem<'_>],
 ) -> Result<ItemKind, Error>
     requires root { ItemsNamed state.old.graph.types (values_of outer.now.root.now) }
     requires supplied { AllSupplied (packages_in outer.now.context.now) state.old.graph }
@@ -93,7 +93,7 @@ fn world_of(
         (map world_item_of items.now) e) }
 {
     let id = declared_id(state.alloc, outer.context, name)?;
-    let declared = world(state, outer, Some(id), name, items)?;
+    let declared = world(items, state, outer, Some(id), name)?;
     Ok(ItemKind::Ty(Type::World(declared)))
 }
 
@@ -112,5 +112,5 @@ pub fn world_decl(
         (scope_of naming state.old.graph (values_of outer.now.root.now)) decl.now.id.string.now
         (declared_count state.old.graph) (world_decl_of decl.now).items e) }
 {
-    world_of(state, outer, decl.id.string, items_of(decl))
+    world_of(items_of(decl), state, outer, decl.id.string)
 }

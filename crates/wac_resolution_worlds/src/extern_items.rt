@@ -33,10 +33,10 @@ use wac_resolution_types::{Body, Section, check_extern};
 
 /// The kind of an import or export that is given a name.
 fn extern_type(
+    ty: &ExternType<'_>,
     state: &mut State,
     outer: &OuterScope<'_>,
     names: &Names<'_, ItemKind>,
-    ty: &ExternType<'_>,
 ) -> Result<ItemKind, Error>
     requires names { ItemsNamed state.old.graph.types (values_of names.now) }
     requires root { ItemsNamed state.old.graph.types (values_of outer.now.root.now) }
@@ -51,24 +51,24 @@ fn extern_type(
 {
     match ty {
         ExternType::Ident(id) => Ok(named_extern(state.alloc, names, outer.root, id)?),
-        ExternType::Func(func) => Ok(ItemKind::Func(new_func(state, names, func)?)),
+        ExternType::Func(func) => Ok(ItemKind::Func(new_func(func, state, names)?)),
         ExternType::Interface(inline) => Ok(ItemKind::Instance(interface(
+            &inline.items,
             state,
             outer,
             None,
             None,
-            &inline.items,
         )?)),
     }
 }
 
 /// Takes an import or export that is given a name: the conflict first, then its type.
 fn named_item(
+    item: &NamedWorldItem<'_>,
     state: &mut State,
     outer: &OuterScope<'_>,
     body: &mut Body<'_>,
     section: &Section<'_>,
-    item: &NamedWorldItem<'_>,
 ) -> Result<(), Error>
     requires body { IsBody state.old.graph.types sides.Import (lists_of body.old) }
     requires root { ItemsNamed state.old.graph.types (values_of outer.now.root.now) }
@@ -83,7 +83,7 @@ fn named_item(
 {
     let id = &item.id;
     check_extern(state.alloc, body, section, id.string, id.span)?;
-    let kind = extern_type(state, outer, &body.names, &item.ty)?;
+    let kind = extern_type(&item.ty, state, outer, &body.names)?;
     body.add(state.alloc, section.side, id.string, kind)?;
     Ok(())
 }
@@ -145,11 +145,11 @@ fn ident_item(
 
 /// Takes an import or export.
 pub fn extern_item(
+    item: &WorldItemPath<'_>,
     state: &mut State,
     outer: &OuterScope<'_>,
     body: &mut Body<'_>,
     section: &Section<'_>,
-    item: &WorldItemPath<'_>,
 ) -> Result<(), Error>
     requires body { IsBody state.old.graph.types sides.Import (lists_of body.old) }
     requires root { ItemsNamed state.old.graph.types (values_of outer.now.root.now) }
@@ -162,7 +162,7 @@ pub fn extern_item(
         (body_of naming state.old.graph body.old) (world_item_path_of item.now) e) }
 {
     match item {
-        WorldItemPath::Named(item) => named_item(state, outer, body, section, item),
+        WorldItemPath::Named(item) => named_item(item, state, outer, body, section),
         WorldItemPath::Package(from) => path_item(state, outer, body, section, from),
         WorldItemPath::Ident(id) => ident_item(state, outer.root, body, section, id),
     }

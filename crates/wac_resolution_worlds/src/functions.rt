@@ -46,9 +46,9 @@ fn named_func(
 
 /// Adds a function type that belongs to no resource.
 pub fn new_func(
+    func: &FuncType<'_>,
     state: &mut State,
     names: &Names<'_, ItemKind>,
-    func: &FuncType<'_>,
 ) -> Result<FuncTypeId, Error>
     requires { ItemsNamed state.old.graph.types (values_of names.now) }
     ensures ok { IfOk result (λ f. NewFunc state.old.graph state.new.graph (values_of names.now)
@@ -57,14 +57,14 @@ pub fn new_func(
         → FuncBroken funcs.Free (scope_of naming state.old.graph (values_of names.now)) [] (func_type_of func.now) e) }
 {
     let first = IndexMap::new(state.alloc);
-    Ok(wac_resolution_types::function(state, names, FuncKind::Free, first, func)?)
+    Ok(wac_resolution_types::function(func, state, names, FuncKind::Free, first)?)
 }
 
 /// The function type of a reference.
 pub fn func_ref(
+    reference: &FuncTypeRef<'_>,
     state: &mut State,
     names: &Names<'_, ItemKind>,
-    reference: &FuncTypeRef<'_>,
 ) -> Result<FuncTypeId, Error>
     requires { ItemsNamed state.old.graph.types (values_of names.now) }
     ensures ok { IfOk result (λ f. FuncRefIs state.old.graph state.new.graph (values_of names.now)
@@ -73,7 +73,7 @@ pub fn func_ref(
         → FuncRefBroken (scope_of naming state.old.graph (values_of names.now)) (func_type_ref_of reference.now) e) }
 {
     match reference {
-        FuncTypeRef::Func(func) => Ok(new_func(state, names, func)?),
+        FuncTypeRef::Func(func) => Ok(new_func(func, state, names)?),
         FuncTypeRef::Ident(id) => Ok(named_func(state.alloc, names, id)?),
     }
 }

@@ -28,11 +28,11 @@ use wac_resolution_types::Body;
 
 /// Takes an include into the world of a name.
 fn include(
+    include: &WorldInclude<'_>,
     state: &mut State,
     outer: &OuterScope<'_>,
     body: &mut Body<'_>,
     world: &str,
-    include: &WorldInclude<'_>,
 ) -> Result<(), Error>
     requires body { AreNamed state.old.graph.types (lists_of body.old) }
     requires root { ItemsNamed state.old.graph.types (values_of outer.now.root.now) }
@@ -68,11 +68,11 @@ fn include_in<'x, 'a>(item: &'x WorldItem<'a>) -> Option<&'x WorldInclude<'a>>
 
 /// Takes an item of a world, if it is an include.
 fn include_item(
+    item: &WorldItem<'_>,
     state: &mut State,
     outer: &OuterScope<'_>,
     body: &mut Body<'_>,
     world: &str,
-    item: &WorldItem<'_>,
 ) -> Result<(), Error>
     requires body { AreNamed state.old.graph.types (lists_of body.old) }
     requires root { ItemsNamed state.old.graph.types (values_of outer.now.root.now) }
@@ -88,7 +88,7 @@ fn include_item(
 {
     match include_in(item) {
         Some(clause) => {
-            include(state, outer, body, world, clause)?;
+            include(clause, state, outer, body, world)?;
             Ok(())
         }
         None => Ok(()),
@@ -97,11 +97,11 @@ fn include_item(
 
 /// Takes the includes among the items of a world, in order.
 pub fn includes(
+    items: &[WorldItem<'_>],
     state: &mut State,
     outer: &OuterScope<'_>,
     body: &mut Body<'_>,
     world: &str,
-    items: &[WorldItem<'_>],
 ) -> Result<(), Error>
     requires body { AreNamed state.old.graph.types (lists_of body.old) }
     requires root { ItemsNamed state.old.graph.types (values_of outer.now.root.now) }
@@ -117,7 +117,7 @@ pub fn includes(
         (body_of naming state.old.graph body.old) (includes_of (map world_item_of items.now))) }
 {
     for item in items {
-        include_item(state, outer, body, world, item)?;
+        include_item(item, state, outer, body, world)?;
     }
     Ok(())
 }

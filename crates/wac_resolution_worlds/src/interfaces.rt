@@ -34,10 +34,10 @@ use wac_resolution_types::{Body, Owner, Section, check_extern};
 
 /// Takes the export of a function.
 fn interface_export(
+    export: &InterfaceExport<'_>,
     state: &mut State,
     body: &mut Body<'_>,
     owner: &Owner<'_>,
-    export: &InterfaceExport<'_>,
 ) -> Result<(), Error>
     requires { IsBody state.old.graph.types sides.Export (lists_of body.old) }
     ensures ok { OnOk result (FuncExportStep state.old.graph state.new.graph (lists_of body.old) (lists_of body.new)
@@ -47,7 +47,7 @@ fn interface_export(
         → InterfaceItemBroken context root (owner_of owner.now) e (body_of naming state.old.graph body.old) before
         (ItemTree.interface_export (interface_export_of export.now))) }
 {
-    let func = func_ref(state, &body.names, &export.ty)?;
+    let func = func_ref(&export.ty, state, &body.names)?;
     let id = &export.id;
     let section = Section {
         owner: *owner,
@@ -65,11 +65,11 @@ fn interface_export(
 
 /// Takes an item of an interface.
 fn interface_item<'a>(
+    item: &InterfaceItem<'a>,
     state: &mut State,
     outer: &OuterScope<'_>,
     body: &mut Body<'a>,
     owner: &Owner<'_>,
-    item: &InterfaceItem<'a>,
 ) -> Result<(), Error>
     requires body { IsBody state.old.graph.types sides.Export (lists_of body.old) }
     requires root { ItemsNamed state.old.graph.types (values_of outer.now.root.now) }
@@ -83,25 +83,25 @@ fn interface_item<'a>(
         (body_of naming state.old.graph body.old) before (interface_item_of item.now)) }
 {
     match item {
-        InterfaceItem::Use(used) => use_statement(state, outer, body, ExternKind::Export, used),
-        InterfaceItem::Export(export) => interface_export(state, body, owner, export),
+        InterfaceItem::Use(used) => use_statement(used, state, outer, body, ExternKind::Export),
+        InterfaceItem::Export(export) => interface_export(export, state, body, owner),
         InterfaceItem::Ty(decl) => {
             let section = Section {
                 owner: *owner,
                 side: ExternKind::Export,
             };
-            wac_resolution_types::item(state, body, &section, decl)
+            wac_resolution_types::item(decl, state, body, &section)
         }
     }
 }
 
 /// Takes items of an interface, in order, into an empty body.
 fn interface_items<'a>(
+    items: &[InterfaceItem<'a>],
     state: &mut State,
     outer: &OuterScope<'_>,
     body: &mut Body<'a>,
     owner: &Owner<'_>,
-    items: &[InterfaceItem<'a>],
 ) -> Result<(), Error>
     requires empty { lists_of body.old ≡ no_lists }
     requires root { ItemsNamed state.old.graph.types (values_of outer.now.root.now) }
@@ -116,7 +116,7 @@ fn interface_items<'a>(
         (body_of naming state.old.graph body.old) (map interface_item_of items.now)) }
 {
     for item in items {
-        interface_item(state, outer, body, owner, item)?;
+        interface_item(item, state, outer, body, owner)?;
     }
     Ok(())
 }
@@ -137,11 +137,11 @@ fn finish_interface(
 
 /// Adds an interface of items, which may have an id, and a name for errors.
 pub fn interface(
+    items: &[InterfaceItem<'_>],
     state: &mut State,
     outer: &OuterScope<'_>,
     id: Option<String>,
     name: Option<&str>,
-    items: &[InterfaceItem<'_>],
 ) -> Result<InterfaceId, Error>
     requires root { ItemsNamed state.old.graph.types (values_of outer.now.root.now) }
     requires supplied { AllSupplied (packages_in outer.now.context.now) state.old.graph }
@@ -154,6 +154,6 @@ pub fn interface(
 {
     let mut body = Body::new(state.alloc);
     let owner = Owner::Interface(name);
-    interface_items(state, outer, &mut body, &owner, items)?;
+    interface_items(items, state, outer, &mut body, &owner)?;
     Ok(finish_interface(state, id, body)?)
 }

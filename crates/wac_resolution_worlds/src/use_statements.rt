@@ -45,11 +45,11 @@ fn used_interface(
 
 /// Takes the used types from an interface.
 pub(crate) fn use_statement<'a>(
+    statement: &Use<'a>,
     state: &mut State,
     outer: &OuterScope<'_>,
     body: &mut Body<'a>,
     side: ExternKind,
-    statement: &Use<'a>,
 ) -> Result<(), Error>
     requires body { IsBody state.old.graph.types side (lists_of body.old) }
     requires root { ItemsNamed state.old.graph.types (values_of outer.now.root.now) }

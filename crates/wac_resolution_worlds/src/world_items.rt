@@ -31,11 +31,11 @@ use wac_resolution_types::{Body, Owner, Section};
 
 /// Takes an item of a world. Includes come afterwards.
 fn world_item<'a>(
+    item: &WorldItem<'a>,
     state: &mut State,
     outer: &OuterScope<'_>,
     body: &mut Body<'a>,
     owner: &Owner<'_>,
-    item: &WorldItem<'a>,
 ) -> Result<(), Error>
     requires body { IsBody state.old.graph.types sides.Import (lists_of body.old) }
     requires root { ItemsNamed state.old.graph.types (values_of outer.now.root.now) }
@@ -49,20 +49,20 @@ fn world_item<'a>(
         (body_of naming state.old.graph body.old) before (world_item_of item.now)) }
 {
     match item {
-        WorldItem::Use(used) => use_statement(state, outer, body, ExternKind::Import, used),
+        WorldItem::Use(used) => use_statement(used, state, outer, body, ExternKind::Import),
         WorldItem::Import(import) => {
             let section = Section {
                 owner: *owner,
                 side: ExternKind::Import,
             };
-            extern_item(state, outer, body, &section, &import.path)
+            extern_item(&import.path, state, outer, body, &section)
         }
         WorldItem::Export(export) => {
             let section = Section {
                 owner: *owner,
                 side: ExternKind::Export,
             };
-            extern_item(state, outer, body, &section, &export.path)
+            extern_item(&export.path, state, outer, body, &section)
         }
         WorldItem::Include(_) => Ok(()),
         WorldItem::Ty(decl) => {
@@ -70,18 +70,18 @@ fn world_item<'a>(
                 owner: *owner,
                 side: ExternKind::Import,
             };
-            wac_resolution_types::item(state, body, &section, decl)
+            wac_resolution_types::item(decl, state, body, &section)
         }
     }
 }
 
 /// Takes items of a world, in order, into an empty body.
 pub fn world_items<'a>(
+    items: &[WorldItem<'a>],
     state: &mut State,
     outer: &OuterScope<'_>,
     body: &mut Body<'a>,
     owner: &Owner<'_>,
-    items: &[WorldItem<'a>],
 ) -> Result<(), Error>
     requires empty { lists_of body.old ≡ no_lists }
     requires root { ItemsNamed state.old.graph.types (values_of outer.now.root.now) }
@@ -96,7 +96,7 @@ pub fn world_items<'a>(
         (body_of naming state.old.graph body.old) (map world_item_of items.now)) }
 {
     for item in items {
-        world_item(state, outer, body, owner, item)?;
+        world_item(item, state, outer, body, owner)?;
     }
     Ok(())
 }

@@ -49,11 +49,11 @@ fn finish_world(
 
 /// Adds a world of items, which may have an id, and a name for errors.
 pub fn world(
+    items: &[WorldItem<'_>],
     state: &mut State,
     outer: &OuterScope<'_>,
     id: Option<String>,
     name: &str,
-    items: &[WorldItem<'_>],
 ) -> Result<WorldId, Error>
     requires root { ItemsNamed state.old.graph.types (values_of outer.now.root.now) }
     requires supplied { AllSupplied (packages_in outer.now.context.now) state.old.graph }
@@ -66,7 +66,7 @@ pub fn world(
 {
     let mut body = Body::new(state.alloc);
     let owner = Owner::World(name);
-    world_items(state, outer, &mut body, &owner, items)?;
-    includes(state, outer, &mut body, name, items)?;
+    world_items(items, state, outer, &mut body, &owner)?;
+    includes(items, state, outer, &mut body, name)?;
     Ok(finish_world(state, id, body)?)
 }
