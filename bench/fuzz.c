@@ -208,7 +208,7 @@ static void push_frame(void) {
     packages.length += current.length;
 }
 
-/* Appends a component behind the name of its package. */
+/* Appends a component after the name of its package. */
 static void push_component(void) {
     const char *name = names[below(sizeof names / sizeof *names)];
     current.length = 0;

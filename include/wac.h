@@ -81,7 +81,7 @@ void wac_run(uint32_t word, size_t limit, const uint8_t *text, size_t text_lengt
  *
  * The document may mention the packages that are handed over, in any order. They are frames, one after another: a length
  * of eight bytes, lowest first, and then so many bytes. A package is a frame with a document that declares it
- * (docs/PACKAGES.md); or it is two, one with its name, as a:b or a:b@1.0.0, and behind it one with its component, which
+ * (docs/PACKAGES.md); or it is two, one with its name, as a:b or a:b@1.0.0, and after it one with its component, which
  * begins with the bytes 0, 'a', 's' and 'm'. Where no package is, packages_length is 0. */
 void wac_graph(size_t limit, const uint8_t *text, size_t text_length, const uint8_t *packages, size_t packages_length,
                uint8_t *out, size_t out_room, uint8_t *message, size_t message_room, wac_answer *answer);

@@ -74,7 +74,7 @@ class Server:
         self.write(framed(message))
 
     def receive(self):
-        """The next message, and None behind the last."""
+        """The next message, and None after the last."""
         return self.messages.get(timeout=ANSWER)
 
     def ask(self, number, method, **params):

@@ -2,7 +2,7 @@
 use Rattle.std.proofs.Common.{◌≡◌, refl, sym, ap, ◌∙◌, ℕ, List, [], ◌∷◌, Bool, true, false, ◌&&◌, ◌||◌, Option, Some, None, Result, not}
 use Rattle.std.specs.Str.{bytes_eq}
 use Rattle.std.proofs.lemmas.Slice.Eq.{bytes_eq-Decides}
-use Rattle.wac_lexer.specs.Item.{Item, Handed, handed, behind_first, OnFirst}
+use Rattle.wac_lexer.specs.Item.{Item, NextToken, next_token, after_first_item, OnFirst}
 use Rattle.wac_lexer.specs.Reading.{slice}
 use Rattle.wac_lexer.specs.Span.{Span}
 use Rattle.wac_lexer.specs.declared.token.Token.{Token}
@@ -13,46 +13,46 @@ use Rattle.wac_all_errors.specs.Telling.{SaysSame}
 
 -- what is found at an item, by its token, its place, its text and the items after it
 abbrev pub found_at : List ℕ → List ℕ → Bool → Result Token Error → ℕ → List ℕ → List Item → Bool
-found_at left name behind token at text xs = (behind && (is_blank_at left at && same_name text name)) || declared_among left name (declares_next token) xs
+found_at left name after token at text xs = (after && (is_blank_at left at && same_name text name)) || declared_among left name (declares_next token) xs
 
-first_is : (left name : List ℕ) (behind : Bool) (items : List Item) (token : Result Token Error) (at : Span) (text : List ℕ) → Some (token, at) ≡ handed items → OnFirst items (λ x. x.text ≡ text)
-    → declared_among left name behind items ≡ found_at left name behind token at.offset text (behind_first items)
-first_is left name behind [] token at text gives same = absurd cc
-first_is left name behind (x ∷ xs) token at text gives same =
+first_is : (left name : List ℕ) (after : Bool) (items : List Item) (token : Result Token Error) (at : Span) (text : List ℕ) → Some (token, at) ≡ next_token items → OnFirst items (λ x. x.text ≡ text)
+    → declared_among left name after items ≡ found_at left name after token at.offset text (after_first_item items)
+first_is left name after [] token at text gives same = absurd cc
+first_is left name after (x ∷ xs) token at text gives same =
     let parts : (token, at) ≡ (x.token, x.span) = cc in
     let tokens : x.token ≡ token = sym (ap (λ (p : Result Token Error × Span). p.0) parts) in
     let places : x.span.offset ≡ at.offset = sym (ap (λ (p : Result Token Error × Span). p.1.offset) parts) in
-    ap (λ r. found_at left name behind r x.span.offset x.text xs) tokens
-    ∙ ap (λ n. found_at left name behind token n x.text xs) places
-    ∙ ap (λ s. found_at left name behind token at.offset s xs) same
+    ap (λ r. found_at left name after r x.span.offset x.text xs) tokens
+    ∙ ap (λ n. found_at left name after token n x.text xs) places
+    ∙ ap (λ s. found_at left name after token at.offset s xs) same
 
 -- the text of an item that was given is that of its span
-pub text_at : (source : List ℕ) (items : List Item) (token : Result Token Error) (at : Span) → Some (token, at) ≡ handed items → OnFirst items (λ x. x.text ≡ slice source x.span) → OnFirst items (λ x. x.text ≡ slice source at)
+pub text_at : (source : List ℕ) (items : List Item) (token : Result Token Error) (at : Span) → Some (token, at) ≡ next_token items → OnFirst items (λ x. x.text ≡ slice source x.span) → OnFirst items (λ x. x.text ≡ slice source at)
 text_at source [] token at gives texts = tt
 text_at source (x ∷ xs) token at gives texts =
     let parts : (token, at) ≡ (x.token, x.span) = cc in
     texts ∙ ap (slice source) (sym (ap (λ (p : Result Token Error × Span). p.1) parts))
 
 -- it isn't the name, or isn't blanked
-pub not_here : (left name : List ℕ) (behind found : Bool) (at place : ℕ) (word text : List ℕ) → behind ≡ true → found ≡ (is_blank_at left at && same_name word name) → found ≡ false → at ≡ place → word ≡ text
-    → (behind && (is_blank_at left place && same_name text name)) ≡ false
-not_here left name behind found at place word text b is none places texts =
+pub not_here : (left name : List ℕ) (after found : Bool) (at place : ℕ) (word text : List ℕ) → after ≡ true → found ≡ (is_blank_at left at && same_name word name) → found ≡ false → at ≡ place → word ≡ text
+    → (after && (is_blank_at left place && same_name text name)) ≡ false
+not_here left name after found at place word text b is none places texts =
     ap (λ x. x && (is_blank_at left place && same_name text name)) b
     ∙ sym (is ∙ ap (λ n. is_blank_at left n && same_name word name) places ∙ ap (λ t. is_blank_at left place && same_name t name) texts)
     ∙ none
 
 -- An item that was given, with the items after it.
-module _ (left name : List ℕ) (behind : Bool) (old new : List Item) (token : Result Token Error) (at : Span) (place : ℕ) (text : List ℕ) (gives : Some (token, at) ≡ handed old) (rest : new ≡ behind_first old)
+module _ (left name : List ℕ) (after : Bool) (old new : List Item) (token : Result Token Error) (at : Span) (place : ℕ) (text : List ℕ) (gives : Some (token, at) ≡ next_token old) (rest : new ≡ after_first_item old)
     (places : place ≡ at.offset) (texts : OnFirst old (λ x. x.text ≡ text)) where
-  given : declared_among left name behind old ≡ found_at left name behind token place text new
+  given : declared_among left name after old ≡ found_at left name after token place text new
   given =
-      first_is left name behind old token at text gives texts
-      ∙ ap (λ n. found_at left name behind token n text (behind_first old)) (sym places)
-      ∙ ap (found_at left name behind token place text) (sym rest)
+      first_is left name after old token at text gives texts
+      ∙ ap (λ n. found_at left name after token n text (after_first_item old)) (sym places)
+      ∙ ap (found_at left name after token place text) (sym rest)
 
   -- it declares the name
-  pub declared_here : behind ≡ true → (is_blank_at left place && same_name text name) ≡ true → true ≡ declared_among left name behind old
-  declared_here b here = sym (given ∙ both behind (is_blank_at left place && same_name text name) b here)
+  pub declared_here : after ≡ true → (is_blank_at left place && same_name text name) ≡ true → true ≡ declared_among left name after old
+  declared_here b here = sym (given ∙ both after (is_blank_at left place && same_name text name) b here)
     where
       both : (b c : Bool) → b ≡ true → c ≡ true → ((b && c) || declared_among left name (declares_next token) new) ≡ true
       both true true p q = refl
@@ -60,14 +60,14 @@ module _ (left name : List ℕ) (behind : Bool) (old new : List Item) (token : R
       both false c p q = absurd cc
 
   -- it doesn't
-  pub declared_later : (behind && (is_blank_at left place && same_name text name)) ≡ false → (next : Bool) → next ≡ declares_next token → declared_among left name next new ≡ declared_among left name behind old
+  pub declared_later : (after && (is_blank_at left place && same_name text name)) ≡ false → (next : Bool) → next ≡ declares_next token → declared_among left name next new ≡ declared_among left name after old
   declared_later here next is =
       ap (λ b. declared_among left name b new) is ∙ sym (given ∙ ap (λ b. b || declared_among left name (declares_next token) new) here)
 
 -- no items are left
-pub none_declared : (left name : List ℕ) (behind : Bool) (items : List Item) → None ≡ handed items → false ≡ declared_among left name behind items
-none_declared left name behind [] e = refl
-none_declared left name behind (x ∷ xs) e = absurd cc
+pub none_declared : (left name : List ℕ) (after : Bool) (items : List Item) → None ≡ next_token items → false ≡ declared_among left name after items
+none_declared left name after [] e = refl
+none_declared left name after (x ∷ xs) e = absurd cc
 
 -- a diagnostic that says the same speaks of no blanked name either
 pub undeclared_so : (source left : List ℕ) (known told : Diagnostic) → IsUndeclared source left known → SaysSame known told → IsUndeclared source left told

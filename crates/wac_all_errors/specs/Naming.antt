@@ -12,7 +12,7 @@ use Rattle.wac_lexer.specs.declared.error.Error.{Error}
 use Rattle.wac_ast_grammar.specs.Tree.{without_percent}
 use Rattle.wac_diagnostics.specs.declared.diagnostic.Diagnostic.{Diagnostic}
 
--- a name right behind this item is declared there: behind a keyword of a declaration, or another name, as a misspelled
+-- a name right after this item is declared there: after a keyword of a declaration, or another name, as a misspelled
 -- keyword is one
 abbrev pub declares_next : Result Token Error → Bool
 declares_next (Ok t.Ident) = true
@@ -31,16 +31,16 @@ declares_next x = false
 abbrev pub is_blank_at : List ℕ → ℕ → Bool
 is_blank_at text at = nat_lt at (length text) && nat_eq (slice_index text at) 32
 
--- the names are the same, be they behind `%` or not
+-- the names are the same, be they after `%` or not
 abbrev pub same_name : List ℕ → List ℕ → Bool
 same_name a b = bytes_eq (without_percent a) (without_percent b)
 
--- One of items declares the name, and is blanked in what is left. They come behind an item that declares what follows,
+-- One of items declares the name, and is blanked in what is left. They come after an item that declares what follows,
 -- or doesn't.
 abbrev pub declared_among : List ℕ → List ℕ → Bool → List Item → Bool
-declared_among left name behind [] = false
-declared_among left name behind (x ∷ xs) =
-    (behind && (is_blank_at left x.span.offset && same_name x.text name))
+declared_among left name after [] = false
+declared_among left name after (x ∷ xs) =
+    (after && (is_blank_at left x.span.offset && same_name x.text name))
     || declared_among left name (declares_next x.token) xs
 
 -- of a source with this rejected character first, or none: in one with a rejected character any name may be declared

@@ -27,7 +27,7 @@ pub(crate) fn is_caused(code: &str) -> bool {
     )
 }
 
-/// Whether a name right behind an item is declared there: behind a keyword of a declaration, or another name, since a
+/// Whether a name right after an item is declared there: after a keyword of a declaration, or another name, since a
 /// misspelled keyword is one.
 fn declares_next(item: LexerResult<Token>) -> bool
     ensures { result ≡ declares_next item }
@@ -64,7 +64,7 @@ fn without_percent(text: &str) -> &str
     text.strip_prefix('%').unwrap_or(text)
 }
 
-/// Whether names are the same, be they behind `%` or not.
+/// Whether names are the same, be they after `%` or not.
 fn same_name(a: &str, b: &str) -> bool
     ensures { result ≡ same_name a.now b.now }
 {
@@ -92,12 +92,12 @@ fn declares(source: &str, left: &str, name: &str) -> bool
 fn declared_among(mut lexer: Lexer<'_>, left: &str, name: &str) -> bool
     ensures { result ≡ declared_among left.now name.now false (items_left lexer.entry) }
 {
-    let mut is_behind = false;
+    let mut is_after = false;
     while let Some((item, span)) = lexer.next() {
-        if is_behind && is_blanked_name(left, span.offset(), lexer.source(span), name) {
+        if is_after && is_blanked_name(left, span.offset(), lexer.source(span), name) {
             return true;
         }
-        is_behind = declares_next(item);
+        is_after = declares_next(item);
     }
     false
 }

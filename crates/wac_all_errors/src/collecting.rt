@@ -154,7 +154,7 @@ fn faults_of(
     Ok(None)
 }
 
-/// The rule that what is left of a text breaks, behind what was found.
+/// The rule that what is left of a text breaks, after what was found.
 fn with_rule(
     alloc: Global,
     text: &str,

@@ -10,11 +10,11 @@ pub use Rattle.std.specs.Prelude.{IsErrAnd, alloc_error, unwrap_or}
 pub use Rattle.wac_ast_grammar.proofs.Fixed.{read_is, takes_some}
 pub use Rattle.wac_ast_grammar.specs.Grammar.{Body, Grammar, Listed, Parts, Sym, TreeOf, argument, docs, either, extern_name, listed, listed_more, not_empty, optional, rule, then, token}
 pub use Rattle.wac_ast_grammar.specs.Reading.{Stop, Tried, at_one_of, begins, can, empty, first, follows, mapped, not_fault, other, read, read_in, read_token, refuse, two, version, ◌>>=◌}
-pub use Rattle.wac_ast_grammar.specs.Segments.{behind, located, package_name_span, segment_spans, segments_from}
+pub use Rattle.wac_ast_grammar.specs.Segments.{after, located, package_name_span, segment_spans, segments_from}
 pub use Rattle.wac_ast_grammar.specs.Tokens.{at, is_bad, is_token, kind, valid}
 pub use Rattle.wac_ast_grammar.specs.Tree.{PackagePath, without_front_quote, without_last_quote, without_percent}
 pub use Rattle.wac_ast_grammar.specs.Version.{is_at_sign, is_slash, path_name, path_segments, reads_version, unversioned, version_of}
-pub use Rattle.wac_lexer.specs.Item.{Doc, Handed, Item, OnFirst, behind_first, doc_of, handed}
+pub use Rattle.wac_lexer.specs.Item.{Doc, NextToken, Item, OnFirst, after_first_item, doc_of, next_token}
 pub use Rattle.wac_lexer.specs.Reading.{Reading, left, shown, slice}
 pub use Rattle.wac_lexer.specs.Span.{Span, end_of, span}
 pub use Rattle.wac_lexer.specs.declared.token.Token.{Token}

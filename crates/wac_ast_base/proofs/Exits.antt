@@ -33,20 +33,20 @@ pub here : {e : Error} {g h : Grammar} {ts : List Tried} {l : Reading} → Fails
 here {e = e} {l = l} f = record { fails = fails_bind e (end_of_input l) _ _ f }
 
 -- the part was read
-pub behind : {e : Error} {g h : Grammar} {ts : List Tried} {l m : Reading} {t : Parts g} → read_in read g ts (left l) ≡ Ok (t, left m) → end_of_input m ≡ end_of_input l → Stops e h [] m → Stops e (then g h) ts l
-behind {e = e} {h = h} {l = l} {m = m} r same f = record { fails = rw r (fails_bind e (end_of_input l) _ _ (subst (λ (x : End). Fails e x (read_in read h [] (left m))) same f.fails)) }
+pub after : {e : Error} {g h : Grammar} {ts : List Tried} {l m : Reading} {t : Parts g} → read_in read g ts (left l) ≡ Ok (t, left m) → end_of_input m ≡ end_of_input l → Stops e h [] m → Stops e (then g h) ts l
+after {e = e} {h = h} {l = l} {m = m} r same f = record { fails = rw r (fails_bind e (end_of_input l) _ _ (subst (λ (x : End). Fails e x (read_in read h [] (left m))) same f.fails)) }
 
 -- a symbol was read
 pub past : {e : Error} {s : Sym} {h : Grammar} {l m : Reading} {t : TreeOf s} → (read s (left l) ≡ Ok (t, left m)) × (end_of_input m ≡ end_of_input l) → Stops e h [] m → Stops e (then (sym s) h) [] l
-past p f = behind p.0 p.1 f
+past p f = after p.0 p.1 f
 
 -- a token was taken
 pub took : {e : Error} {k : Token} {h : Grammar} {l m : Reading} {x : Item} {P : Type 0} → (read_token [] k (left l) ≡ Ok (x, left m)) × P × (end_of_input m ≡ end_of_input l) → Stops e h [] m → Stops e (then (token k) h) [] l
-took p f = behind p.0 p.2 f
+took p f = after p.0 p.2 f
 
 -- a piece was read
 pub beyond : {e : Error} {g h : Grammar} {X Y E : Type 0} {of : Parts g → Y} {made : Error → E → Type 0} {view : X → Y} {x : X} {l m : Reading} → GivesPart g of made view (Ok x) l m → Stops e h [] m → Stops e (then g h) [] l
-beyond p f = behind p.part.1 p.part.3 f
+beyond p f = after p.part.1 p.part.3 f
 
 -- a piece fails
 pub last_piece : {g : Grammar} {X Y : Type 0} {of : Parts g → Y} {view : X → Y} {e : Error} {l m : Reading} → GivesPart g of (λ e x. x ≡ e) view (Err e) l m → Stops e g [] l
@@ -58,7 +58,7 @@ piece p = here (same_error _ _ _ p.part)
 
 -- a list was read
 pub listed : {e : Error} {s : Sym} {h : Grammar} {l m : Reading} {t : Item → TreeOf s} {P : Item → Type 0} → ((i : Item) × (read s (left l) ≡ Ok (t i, left m)) × P i × (end_of_input m ≡ end_of_input l)) → Stops e h [] m → Stops e (then (sym s) h) [] l
-listed r f = behind r.1 r.3 f
+listed r f = after r.1 r.3 f
 
 -- memory ran out
 pub memory : {e : Error} {g : Grammar} {ts : List Tried} {l : Reading} → told_by e ≡ no_memory → Stops e g ts l
@@ -112,7 +112,7 @@ last_misses_first {s = s} {t = t} {ts = ts} looks peeks is told names tokens tel
 
 -- the same where the last part begins with a token
 pub last_meets_token : {e : Error} {l : Reading} {k : Token} {h : Grammar} {t : Tried} {ts : List Tried} {x : Item} {P : Type 0} (m : Reading) → (read_token [] k (left l) ≡ Ok (x, left m)) × P × (end_of_input m ≡ end_of_input l) → Stops e h [] m → Stops e (then (token k) h) (t ∷ ts) l
-last_meets_token {l = l} {k = k} {t = t} {ts = ts} {x = x} m taken f = behind (token_there (t ∷ ts) k (left l) (x, left m) taken.0) taken.2 f
+last_meets_token {l = l} {k = k} {t = t} {ts = ts} {x = x} m taken f = after (token_there (t ∷ ts) k (left l) (x, left m) taken.0) taken.2 f
 
 pub last_misses_token : {e : Error} {l : Reading} {k : Token} {h : Grammar} {t : Tried} {ts : List Tried} {ks : List Token} {look new : Looked} {found : Bool} {a b : Token} {js : List Token} → Looks l ks look → Peeks (k ∷ []) found look new → found ≡ false → told_by e ≡ told_of new
     → ks ++ k ∷ [] ≡ a ∷ b ∷ js → (t ∷ ts) ++ can k ∷ [] ≡ map can (a ∷ b ∷ js) → told_of (tried (a ∷ b ∷ js) (looked l)) ≡ tells l.source l.last (left l) (a ∷ b ∷ js) → Stops e (then (token k) h) (t ∷ ts) l
@@ -138,7 +138,7 @@ no_word {k = k} {l = l} (inr (missing, fault, tells)) = here (rw (one_test k (le
 
 -- a token alone was looked for
 pub word : {e : Error} {k : Token} {h : Grammar} {l : Reading} (b : Bool) (m : Reading) → TakesOptional k (Ok b) l m → Stops e h [] m → Stops e (then (optional (token k)) h) [] l
-word {k = k} {l = l} b m taken f = let p = optional_token k b l m taken in behind p.1 p.3 f
+word {k = k} {l = l} b m taken f = let p = optional_token k b l m taken in after p.1 p.3 f
 
 -- the token was taken
 pub option : {e : Error} {k : Token} {h : Grammar} {l : Reading} {b : Bool} (m : Reading) → b ≡ true → TakesOptional k (Ok b) l m → Stops e h [] m → Stops e (optional (then (token k) h)) [] l

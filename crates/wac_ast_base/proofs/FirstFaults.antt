@@ -4,7 +4,7 @@ use Rattle.wac_ast_base.proofs.Common.{alloc_error, Span, Item, Reading, left, T
 use Rattle.std.proofs.lemmas.List.{append-nil}
 use Rattle.wac_lexer.specs.declared.token.Token.TheVariants as t
 use Rattle.wac_lexer.specs.declared.error.Error.{Error as Fault}
-use Rattle.wac_ast_grammar.specs.Reading.{Standing, at_once, closing, behind_comma, Tried, can, Stop, Why, other, version, empty_body, told as told_of_item, before, read}
+use Rattle.wac_ast_grammar.specs.Reading.{Standing, at_once, closing, after_comma, Tried, can, Stop, Why, other, version, empty_body, told as told_of_item, before, read}
 use Rattle.wac_ast_grammar.specs.Viable.{Viable}
 use Rattle.wac_ast_grammar.specs.Possible.{same_standing, named}
 use Rattle.wac_ast_grammar.specs.Bodies.{Opens}
@@ -34,7 +34,7 @@ names ts = map (λ t. t.token) ts
 same_way : (m : Standing) → same_standing m m ≡ true
 same_way at_once = refl
 same_way closing = refl
-same_way behind_comma = refl
+same_way after_comma = refl
 
 named_here : (x : Tried) (ts : List Tried) → named x.standing x.token (x ∷ ts) ≡ true
 named_here x ts = ap (λ b. cond (cond b (same_token x.token x.token) false) true (named x.standing x.token ts)) (same_way x.standing) ∙ ap (λ b. cond b true (named x.standing x.token ts)) (self_token x.token)
@@ -197,7 +197,7 @@ module _ (s : Sym) (end : End) where
         go : (m : Standing) (k : Token) → named m k stop.expected ≡ true → Stands s lead stop.left k m → Expects s lead stop.left k
         go at_once k n f = inl f
         go closing k n f = let c = closes_body s xs lead stop h e k n in inr (inl (c.0, c.1, c.2))
-        go behind_comma k n f = inr (inr f)
+        go after_comma k n f = inr (inr f)
 
     known : (lead : List Item) → FirstFault s xs lead stop.left → ((m : Standing) (k : Token) → named m k stop.expected ≡ true → Stands s lead stop.left k m) → Known lead stop.left stop.expected stop.why
     known lead f stands = record {

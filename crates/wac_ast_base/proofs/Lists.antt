@@ -80,9 +80,9 @@ step_put : {A : Type 0} (a : A) (m : Reads (Listed A)) → mapped {A = A × List
 step_put a (Ok y) = refl
 step_put a (Err s) = refl
 
-behind_comma : {A : Type 0} (x : Item) (m : Reads (Listed A)) → mapped {A = Item × Listed A} {B = Listed A} (λ p. p.1) (pair_with x m) ≡ m
-behind_comma x (Ok y) = refl
-behind_comma x (Err s) = refl
+after_comma : {A : Type 0} (x : Item) (m : Reads (Listed A)) → mapped {A = Item × Listed A} {B = Listed A} (λ p. p.1) (pair_with x m) ≡ m
+after_comma x (Ok y) = refl
+after_comma x (Err s) = refl
 
 module _ {A : Type 0} {k : Token} {ks : List Token} {ri : List Item → Reads A} {rl rm : List Item → Reads (Listed A)} where
   pub list_shut : IsList k ks ri rl rm → (xs : List Item) (x : Item) (rest : List Item) → read_token [] k xs ≡ Ok (x, rest) → at k xs ≡ true → rl xs ≡ Ok (([], x), rest)
@@ -105,7 +105,7 @@ module _ {A : Type 0} {k : Token} {ks : List Token} {ri : List Item → Reads A}
 
   pub rest_comma : IsCommaList k ks ri rl rm → (ys : List Item) (x : Item) (zs : List Item) → at k ys ≡ false → read_token [] t.Comma ys ≡ Ok (x, zs) → rm ys ≡ rl zs
   rest_comma list [] x zs h r = absurd cc
-  rest_comma list (y ∷ ys) x zs h r = list.rest (y ∷ ys) ∙ cond_false (at k (y ∷ ys)) _ _ h ∙ ap (λ (m : Reads Item). mapped {A = Item × Listed A} {B = Listed A} (λ p. p.1) (two m (λ a. rl))) r ∙ behind_comma x (rl zs)
+  rest_comma list (y ∷ ys) x zs h r = list.rest (y ∷ ys) ∙ cond_false (at k (y ∷ ys)) _ _ h ∙ ap (λ (m : Reads Item). mapped {A = Item × Listed A} {B = Listed A} (λ p. p.1) (two m (λ a. rl))) r ∙ after_comma x (rl zs)
 
   pub rest_fails : IsCommaList k ks ri rl rm → (e : Error) (end : End) (ys : List Item) → at k ys ≡ false → has_more ys ≡ true → Fails e end (read_token [] t.Comma ys) → Fails e end (rm ys)
   rest_fails list e end [] h m f = absurd cc
@@ -116,10 +116,10 @@ module _ {A : Type 0} {k : Token} {ks : List Token} {ri : List Item → Reads A}
   rest_over list (y ∷ ys) h = absurd cc
 
   -- one more item, after which the list continues
-  pub list_goes_on : {front : List A} {old mid new : Reading} {a : A} (behind : Reading) → IsList k ks ri rl rm → ListSoFar rl front old mid → at k (left mid) ≡ false
-      → (read_sym ri ks (can k ∷ []) (left mid) ≡ Ok (a, left behind)) × (end_of_input behind ≡ end_of_input mid) → behind.source ≡ mid.source → mid.place ≤ behind.place
-      → (rm (left behind) ≡ rl (left new)) × (end_of_input new ≡ end_of_input behind) → new.source ≡ behind.source → behind.place ≤ new.place → ListSoFar rl (front ++ a ∷ []) old new
-  list_goes_on {front = front} {old = old} {mid = mid} {new = new} {a = a} behind list so_far h r source moves on source_on moves_on =
+  pub list_goes_on : {front : List A} {old mid new : Reading} {a : A} (after : Reading) → IsList k ks ri rl rm → ListSoFar rl front old mid → at k (left mid) ≡ false
+      → (read_sym ri ks (can k ∷ []) (left mid) ≡ Ok (a, left after)) × (end_of_input after ≡ end_of_input mid) → after.source ≡ mid.source → mid.place ≤ after.place
+      → (rm (left after) ≡ rl (left new)) × (end_of_input new ≡ end_of_input after) → new.source ≡ after.source → after.place ≤ new.place → ListSoFar rl (front ++ a ∷ []) old new
+  list_goes_on {front = front} {old = old} {mid = mid} {new = new} {a = a} after list so_far h r source moves on source_on moves_on =
       let m : mid.place ≤ new.place = omega arith in
       list_more rl front old mid new a so_far (item_put list h r.0 ∙ ap (mapped {A = Listed A} {B = Listed A} (put a)) on.0) (on.1 ∙ r.1) (source_on ∙ source) m
 
@@ -301,10 +301,10 @@ stops_there e list more (Ok x) old new h f = absurd h
 stops_there e list more (Err x) old new h f = subst (λ (y : Error). Fails y (end_of_input old) (more (left old))) (back h) f
 
 -- what follows an item fails
-pub step_fails : {A : Type 0} {k : Token} {ks : List Token} {ri : List Item → Reads A} {rl rm : List Item → Reads (Listed A)} {a : A} (e : Error) (mid behind : Reading) → IsList k ks ri rl rm → at k (left mid) ≡ false
-    → (read_sym ri ks (can k ∷ []) (left mid) ≡ Ok (a, left behind)) × (end_of_input behind ≡ end_of_input mid) → Fails e (end_of_input behind) (rm (left behind)) → Fails e (end_of_input mid) (rl (left mid))
-step_fails {rl = rl} {rm = rm} {a = a} e mid behind list h r f =
-    same_fails e (end_of_input mid) (rl (left mid)) _ (item_put list h r.0) (fails_bind e (end_of_input mid) (rm (left behind)) _ (moved_end e (end_of_input behind) (end_of_input mid) (rm (left behind)) r.1 f))
+pub step_fails : {A : Type 0} {k : Token} {ks : List Token} {ri : List Item → Reads A} {rl rm : List Item → Reads (Listed A)} {a : A} (e : Error) (mid after : Reading) → IsList k ks ri rl rm → at k (left mid) ≡ false
+    → (read_sym ri ks (can k ∷ []) (left mid) ≡ Ok (a, left after)) × (end_of_input after ≡ end_of_input mid) → Fails e (end_of_input after) (rm (left after)) → Fails e (end_of_input mid) (rl (left mid))
+step_fails {rl = rl} {rm = rm} {a = a} e mid after list h r f =
+    same_fails e (end_of_input mid) (rl (left mid)) _ (item_put list h r.0) (fails_bind e (end_of_input mid) (rm (left after)) _ (moved_end e (end_of_input after) (end_of_input mid) (rm (left after)) r.1 f))
 
 -- an item takes something
 pub item_less : (s : Sym) (k : Token) (xs : List Item) (t : g.TreeOf s) (ys : List Item) → read_in read (g.sym s) (can k ∷ []) xs ≡ Ok (t, ys) → empty s ≡ false → length ys < length xs

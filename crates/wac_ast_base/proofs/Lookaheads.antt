@@ -1,5 +1,5 @@
 -- Where none of the tokens that were tried is next.
-use Rattle.wac_ast_base.proofs.Common.{◌≡◌, ℕ, suc, Bool, true, false, ◌||◌, cond, if◌then◌else◌, ◌<◌, ◌≤◌, ◌+◌, drop, ◌^◌, ◌-◌, min, arith, zero, ltb, append_assoc, List, [], ◌∷◌, ◌++◌, map, take, length, Option, Some, None, Result, Ok, Err, inr, refl, ap, subst, ◌∙◌, ltb-true, Span, Item, Handed, handed, Reading, left, shown, Token, at, Sym, Stop, Tried, can, follows, begins, at_one_of, refuse}
+use Rattle.wac_ast_base.proofs.Common.{◌≡◌, ℕ, suc, Bool, true, false, ◌||◌, cond, if◌then◌else◌, ◌<◌, ◌≤◌, ◌+◌, drop, ◌^◌, ◌-◌, min, arith, zero, ltb, append_assoc, List, [], ◌∷◌, ◌++◌, map, take, length, Option, Some, None, Result, Ok, Err, inr, refl, ap, subst, ◌∙◌, ltb-true, Span, Item, NextToken, next_token, Reading, left, shown, Token, at, Sym, Stop, Tried, can, follows, begins, at_one_of, refuse}
 use Rattle.std.proofs.Common.{get_or, sym}
 use Rattle.std.proofs.Math.Seq.{drop-cons}
 use Rattle.std.proofs.lemmas.List.{append-nil}
@@ -11,11 +11,11 @@ use Rattle.wac_ast_base.specs.Lookahead.{Looked, looked, is_next, is_one_of, tri
 use Rattle.wac_ast_base.specs.Lists.{tells}
 use Rattle.wac_ast_base.specs.Answer.{end_of_input, final_span, end_span, told, Fails}
 
-next_is : (k : Token) (xs : List Item) → is_next k (handed xs) ≡ at k xs
+next_is : (k : Token) (xs : List Item) → is_next k (next_token xs) ≡ at k xs
 next_is k [] = refl
 next_is k (x ∷ xs) = refl
 
-pub one_of : (ks : List Token) (xs : List Item) → is_one_of ks (handed xs) ≡ at_one_of ks xs
+pub one_of : (ks : List Token) (xs : List Item) → is_one_of ks (next_token xs) ≡ at_one_of ks xs
 one_of [] xs = refl
 one_of (k ∷ ks) xs = rw (next_is k xs, one_of ks xs) (go (at k xs))
   where
@@ -31,7 +31,7 @@ length_of : (ks : List Token) → length (map can ks) ≡ length ks
 length_of [] = refl
 length_of (k ∷ ks) = ap (λ n. suc n) (length_of ks)
 
-same_refusal : (xs : List Item) (s t : Span) (f : Option Token → Span → Told) → (xs ≡ [] → s ≡ t) → refusal (handed xs) s f ≡ refusal (handed xs) t f
+same_refusal : (xs : List Item) (s t : Span) (f : Option Token → Span → Told) → (xs ≡ [] → s ≡ t) → refusal (next_token xs) s f ≡ refusal (next_token xs) t f
 same_refusal [] s t f h = ap (λ e. f None e) (h refl)
 same_refusal (x ∷ xs) s t f h = go x.token
   where
@@ -44,7 +44,7 @@ last_of_none source last [] h = refl
 last_of_none source last (x ∷ xs) h = absurd cc
 
 tells_end : (source : List ℕ) (last : Span) (xs : List Item) (a b : Token) (ks : List Token) → tells source last xs (a ∷ b ∷ ks)
-    ≡ refusal (handed xs) (end_span (record { source = source; final = final_span last xs }) (map can (a ∷ b ∷ ks))) (expected (take 10 (map (λ (t : Tried). t.token) (map can (a ∷ b ∷ ks)))) (length (map can (a ∷ b ∷ ks))))
+    ≡ refusal (next_token xs) (end_span (record { source = source; final = final_span last xs }) (map can (a ∷ b ∷ ks))) (expected (take 10 (map (λ (t : Tried). t.token) (map can (a ∷ b ∷ ks)))) (length (map can (a ∷ b ∷ ks))))
 tells_end source last xs a b ks = rw (tokens_of ks, length_of ks) (same_refusal xs (shown source last) (shown source (final_span last xs)) (expected (take 10 (a ∷ b ∷ ks)) (length (a ∷ b ∷ ks))) (last_of_none source last xs))
 
 -- none of several tokens is next
@@ -56,7 +56,7 @@ alternatives_fail {A = A} e l a b ks r is h = subst (λ (m : Result A Stop). Fai
 
 pub record Looks (l : Reading) (ks : List Token) (look : Looked) : Type 0 where
   pub is : look ≡ tried ks (looked l)
-  pub next : look.next ≡ handed (left l)
+  pub next : look.next ≡ next_token (left l)
 
 pub looks : (l : Reading) (look : Looked) → look ≡ looked l → Looks l [] look
 looks l look h = record { is = h; next = ap (λ (a : Looked). a.next) h }
@@ -117,7 +117,7 @@ peeked_met (k ∷ ks) js l h = go (is_next k l.next) h (λ rest. peeked_met ks j
     go true h r = refl
     go false h r = r h
 
-one_of_more : (ks js : List Token) (next : Handed) → is_one_of (ks ++ js) next ≡ (is_one_of ks next || is_one_of js next)
+one_of_more : (ks js : List Token) (next : NextToken) → is_one_of (ks ++ js) next ≡ (is_one_of ks next || is_one_of js next)
 one_of_more [] js next = refl
 one_of_more (k ∷ ks) js next = rw (one_of_more ks js next) (go (is_next k next))
   where
@@ -166,7 +166,7 @@ unfolding told end_of_input
 named_fail {A = A} e l a b ts r is h =
     let names = map (λ (t : Tried). t.token) (a ∷ b ∷ ts) in
     let same = same_refusal (left l) (shown l.source l.last) (shown l.source (final_span l.last (left l))) (expected (take 10 names) (length names)) (last_of_none l.source l.last (left l)) in
-    let counted : refusal (handed (left l)) (shown l.source (final_span l.last (left l))) (expected (take 10 names) (length names)) ≡ refusal (handed (left l)) (shown l.source (final_span l.last (left l))) (expected (take 10 names) (length (a ∷ b ∷ ts))) = ap (λ (n : ℕ). refusal (handed (left l)) (shown l.source (final_span l.last (left l))) (expected (take 10 names) n)) (length_names (a ∷ b ∷ ts)) in
+    let counted : refusal (next_token (left l)) (shown l.source (final_span l.last (left l))) (expected (take 10 names) (length names)) ≡ refusal (next_token (left l)) (shown l.source (final_span l.last (left l))) (expected (take 10 names) (length (a ∷ b ∷ ts))) = ap (λ (n : ℕ). refusal (next_token (left l)) (shown l.source (final_span l.last (left l))) (expected (take 10 names) n)) (length_names (a ∷ b ∷ ts)) in
     subst (λ (m : Result A Stop). Fails e (end_of_input l) m) (sym is) (inr (ap Some (sym (h ∙ same ∙ counted))))
 
 -- ---- a symbol's first tokens
@@ -176,7 +176,7 @@ take_front zero xs ys = refl
 take_front (suc n) [] ys = refl
 take_front {A = A} (suc n) (x ∷ xs) ys = ap (λ (l : List A). x ∷ l) (take_front n xs ys)
 
-told_tried : (next : Handed) (s : Span) (front ks : List Token) (n : ℕ) → n + length ks < 2 ^ 64 → told_of (tried ks (record { next = next; span = s; kept = take 10 front; count = n })) ≡ refusal next s (expected (take 10 (front ++ ks)) (n + length ks))
+told_tried : (next : NextToken) (s : Span) (front ks : List Token) (n : ℕ) → n + length ks < 2 ^ 64 → told_of (tried ks (record { next = next; span = s; kept = take 10 front; count = n })) ≡ refusal next s (expected (take 10 (front ++ ks)) (n + length ks))
 told_tried next s front [] n few =
     let none : n ≡ n + 0 = omega arith in
     ap (λ (l : List Token). refusal next s (expected (take 10 l) n)) (sym (append-nil front)) ∙ ap (λ (m : ℕ). refusal next s (expected (take 10 (front ++ [])) m)) none
@@ -206,7 +206,7 @@ none_fails {A = A} e l r s k ts is names tells_it = go ts is names
     tells_all =
         let few : length (begins s) < 100 = ltb-true (length (begins s)) 100 (begins_few s) in
         let one : 0 + length (k ∷ begins s) ≡ length (k ∷ begins s) = omega arith in
-        tells_it ∙ told_tried (handed (left l)) (shown l.source l.last) [] (k ∷ begins s) 0 (omega arith) ∙ ap (λ (m : ℕ). refusal (handed (left l)) (shown l.source l.last) (expected (take 10 (k ∷ begins s)) m)) one
+        tells_it ∙ told_tried (next_token (left l)) (shown l.source l.last) [] (k ∷ begins s) 0 (omega arith) ∙ ap (λ (m : ℕ). refusal (next_token (left l)) (shown l.source l.last) (expected (take 10 (k ∷ begins s)) m)) one
 
     none : [] ≡ begins s → ⊥
     none h = let some : 0 < length (begins s) = ltb-true 0 (length (begins s)) (begins_some s) in let m : 0 ≡ length (begins s) = ap (λ (js : List Token). length js) h in omega arith

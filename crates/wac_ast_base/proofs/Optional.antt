@@ -28,9 +28,9 @@ pub same : {A : Type 0} (a b : A) → ◌≡◌ {A = Result A Stop} (Ok a) (Ok b
 same a b h = cc
 
 -- a result after what was taken
-pub gives_behind : {X Y : Type 0} (view : X → Y) (r : Result X Error) (old mid new : Reading) (m n : Reads Y) → n ≡ m → end_of_input mid ≡ end_of_input old → Gives view r mid new m → Gives view r old new n
-gives_behind view (Ok x) old mid new m n is ends gives = (is ∙ gives.0, gives.1 ∙ ends)
-gives_behind view (Err e) old mid new m n is ends gives = same_fails e (end_of_input old) n m is (moved_end e (end_of_input mid) (end_of_input old) m ends gives)
+pub gives_after : {X Y : Type 0} (view : X → Y) (r : Result X Error) (old mid new : Reading) (m n : Reads Y) → n ≡ m → end_of_input mid ≡ end_of_input old → Gives view r mid new m → Gives view r old new n
+gives_after view (Ok x) old mid new m n is ends gives = (is ∙ gives.0, gives.1 ∙ ends)
+gives_after view (Err e) old mid new m n is ends gives = same_fails e (end_of_input old) n m is (moved_end e (end_of_input mid) (end_of_input old) m ends gives)
 
 -- ---- a token after others that were tried
 

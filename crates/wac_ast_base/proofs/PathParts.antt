@@ -1,10 +1,10 @@
 -- The first segment of a text, and the others.
-use Rattle.wac_ast_base.proofs.Common.{◌≡◌, ◌<◌, ℕ, suc, ◌+◌, List, [], ◌∷◌, length, false, refl, ap, subst, ◌∙◌, slice_split, before_first, after_first, position_or_len, count_by, fails_before_first, span, is_slash, behind, located, segments_from}
+use Rattle.wac_ast_base.proofs.Common.{◌≡◌, ◌<◌, ℕ, suc, ◌+◌, List, [], ◌∷◌, length, false, refl, ap, subst, ◌∙◌, slice_split, before_first, after_first, position_or_len, count_by, fails_before_first, span, is_slash, after, located, segments_from}
 use Rattle.std.proofs.Common.{sym}
 use Rattle.std.proofs.lemmas.List.Splits.{slice_split_first, slice_split_none, length-slice_split}
 use Rattle.std.proofs.lemmas.List.Elements.{All-from_get_or}
 
-pub first_segment : (offset : ℕ) (text : List ℕ) → position_or_len is_slash text < length text → segments_from offset text ≡ (before_first is_slash text, span offset (length (before_first is_slash text))) ∷ segments_from (behind (behind offset (length (before_first is_slash text))) 1) (after_first is_slash text)
+pub first_segment : (offset : ℕ) (text : List ℕ) → position_or_len is_slash text < length text → segments_from offset text ≡ (before_first is_slash text, span offset (length (before_first is_slash text))) ∷ segments_from (after (after offset (length (before_first is_slash text))) 1) (after_first is_slash text)
 first_segment offset text h = ap (located offset) (slice_split_first is_slash text 0 h)
 
 -- without a slash the text is the one segment
@@ -13,7 +13,7 @@ one_segment offset text h = ap (located offset) (slice_split_none is_slash text 
 
 length-located : (offset : ℕ) (parts : List (List ℕ)) → length (located offset parts) ≡ length parts
 length-located offset [] = refl
-length-located offset (part ∷ others) = ap (λ (n : ℕ). suc n) (length-located (behind (behind offset (length part)) 1) others)
+length-located offset (part ∷ others) = ap (λ (n : ℕ). suc n) (length-located (after (after offset (length part)) 1) others)
 
 -- one more than there are slashes
 pub counted : (offset : ℕ) (text : List ℕ) → length (segments_from offset text) ≡ count_by is_slash text + 1

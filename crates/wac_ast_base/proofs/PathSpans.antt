@@ -1,5 +1,5 @@
 -- The package's name of a path and its segments lie at their spans.
-use Rattle.wac_ast_base.proofs.Common.{◌≡◌, ◌<◌, ◌≤◌, ℕ, suc, ◌+◌, ◌-◌, not, List, [], ◌∷◌, take, drop, length, refl, ap, subst, ◌∙◌, arith, ⊎_elim, ◌^◌, AllByRecursion, slice_split, onto_first, position_or_len, cases_lt, cond_both, drop-drop, drop-take, drop_all, get_or-take, length-take-le, length-drop, take-take, fails_before_first, passes_at_first, position_or_len_is, prefix_len-le-length, Span, span, end_of, slice, is_slash, is_at_sign, unversioned, path_name, path_segments, PackagePath, behind, located, segment_spans, package_name_span}
+use Rattle.wac_ast_base.proofs.Common.{◌≡◌, ◌<◌, ◌≤◌, ℕ, suc, ◌+◌, ◌-◌, not, List, [], ◌∷◌, take, drop, length, refl, ap, subst, ◌∙◌, arith, ⊎_elim, ◌^◌, AllByRecursion, slice_split, onto_first, position_or_len, cases_lt, cond_both, drop-drop, drop-take, drop_all, get_or-take, length-take-le, length-drop, take-take, fails_before_first, passes_at_first, position_or_len_is, prefix_len-le-length, Span, span, end_of, slice, is_slash, is_at_sign, unversioned, path_name, path_segments, PackagePath, after, located, segment_spans, package_name_span}
 use Rattle.std.proofs.Common.{sym}
 use Rattle.wac_ast_grammar.specs.Spelled.{spelled}
 
@@ -28,13 +28,13 @@ module _ (source : List ℕ) where
   add_first b offset [] e h = (sym (ap (take 1) e), tt)
   add_first b offset (part ∷ others) e h =
       let here : b ∷ part ≡ take (suc (length part)) (drop offset source) = ap (λ rest. b ∷ rest) h.0 ∙ sym (ap (take (suc (length part))) e) in
-      let same : behind (behind (offset + 1) (length part)) 1 ≡ behind (behind offset (suc (length part))) 1 = omega arith in
+      let same : after (after (offset + 1) (length part)) 1 ≡ after (after offset (suc (length part))) 1 = omega arith in
       (here, subst (λ place. Located place others) same h.1)
 
   pub segments_stand : (text : List ℕ) (offset : ℕ) → StandsAt text offset → offset + length text < 2 ^ 64 → Located offset (slice_split is_slash text)
   segments_stand [] offset h fits = (refl, tt)
   segments_stand (b ∷ text) offset h fits =
-      let next : offset + 1 ≡ behind (behind offset 0) 1 = omega arith in
+      let next : offset + 1 ≡ after (after offset 0) 1 = omega arith in
       let first = first_of b text offset h in
       let later = segments_stand text (offset + 1) first.1 (omega arith) in
       cond_both (is_slash b) ([] ∷ slice_split is_slash text) (onto_first b (slice_split is_slash text)) (Located offset)
@@ -104,19 +104,19 @@ module _ (source : List ℕ) (s : Span) (within : end_of s ≤ length source) (s
       bare_here : unversioned text ≡ take end (drop s.offset source)
       bare_here = bare_is
 
-  behind_name : place < length (unversioned text) → behind (behind s.offset (length (path_name text))) 1 ≡ s.offset + (place + 1)
-  behind_name h =
+  after_name : place < length (unversioned text) → after (after s.offset (length (path_name text))) 1 ≡ s.offset + (place + 1)
+  after_name h =
       let len : length (path_name text) ≡ place = name_len ∙ same_place h in
       omega (arith, len, bare_len, end_within)
 
-  segments_located : Located source (behind (behind s.offset (length (path_name text))) 1) (slice_split is_slash (path_segments text))
+  segments_located : Located source (after (after s.offset (length (path_name text))) 1) (slice_split is_slash (path_segments text))
   segments_located =
       ⊎_elim
       (λ (h : place < length (unversioned text)).
-      subst (λ k. Located source k (slice_split is_slash (path_segments text))) (sym (behind_name h))
+      subst (λ k. Located source k (slice_split is_slash (path_segments text))) (sym (after_name h))
       (segments_stand source (path_segments text) (s.offset + (place + 1)) (segments_here h) (omega (arith, fits h))))
       (λ (h : length (unversioned text) ≤ place).
-      subst (λ w. Located source (behind (behind s.offset (length (path_name text))) 1) (slice_split is_slash w)) (sym (none h)) (refl, tt))
+      subst (λ w. Located source (after (after s.offset (length (path_name text))) 1) (slice_split is_slash w)) (sym (none h)) (refl, tt))
       (cases_lt place (length (unversioned text)))
     where
       fits : place < length (unversioned text) → s.offset + (place + 1) + length (path_segments text) < 2 ^ 64
@@ -130,6 +130,6 @@ pub path_stands : (source : List ℕ) (path : PackagePath) → (spelled source).
 path_stands source path h within small =
     let s = path.span in (
       subst (λ name. name ≡ slice source (span s.offset (length name))) (sym h.1) (name_stands source s within small),
-      subst (λ name. Located source (behind (behind s.offset (length name)) 1) (slice_split is_slash path.segments)) (sym h.1)
-          (subst (λ w. Located source (behind (behind s.offset (length (path_name (slice source s)))) 1) (slice_split is_slash w)) (sym h.2) (segments_located source s within small)),
+      subst (λ name. Located source (after (after s.offset (length name)) 1) (slice_split is_slash path.segments)) (sym h.1)
+          (subst (λ w. Located source (after (after s.offset (length (path_name (slice source s)))) 1) (slice_split is_slash w)) (sym h.2) (segments_located source s within small)),
     )

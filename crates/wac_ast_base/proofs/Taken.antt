@@ -1,5 +1,5 @@
 -- A token that is next, and taken.
-use Rattle.wac_ast_base.proofs.Common.{◌≡◌, ℕ, true, false, eq-eqb, cond, take, map, length, List, [], ◌∷◌, ◌⊎◌, inl, inr, Option, Some, None, Result, Ok, Err, refl, ap, subst, ◌∙◌, rules, Span, Item, handed, behind_first, Reading, left, shown, Token, reads_version, kind, is_token, is_bad, valid, at, read_token, can, version, other, refuse, Stop, Tried, not_fault}
+use Rattle.wac_ast_base.proofs.Common.{◌≡◌, ℕ, true, false, eq-eqb, cond, take, map, length, List, [], ◌∷◌, ◌⊎◌, inl, inr, Option, Some, None, Result, Ok, Err, refl, ap, subst, ◌∙◌, rules, Span, Item, next_token, after_first_item, Reading, left, shown, Token, reads_version, kind, is_token, is_bad, valid, at, read_token, can, version, other, refuse, Stop, Tried, not_fault}
 use Rattle.std.proofs.Common.{sym}
 use denote.Enum.Bare.{sameb, same_true}
 use Rattle.wac_lexer.specs.contracts.token.Token.{the_type}
@@ -25,18 +25,18 @@ some_same a b h = cc
 same_kind : (k : Token) (x : Item) → x.token ≡ Ok k → is_token k x.token ≡ true
 same_kind k x is = ap (is_token k) is ∙ eq-eqb (kind k) (kind k) refl
 
-both : (k : Token) (x : Item) (s : Span) → handed (x ∷ []) ≡ Some (Ok k, s) → (x.token ≡ Ok k) × (x.span ≡ s)
+both : (k : Token) (x : Item) (s : Span) → next_token (x ∷ []) ≡ Some (Ok k, s) → (x.token ≡ Ok k) × (x.span ≡ s)
 both k x s h = let e = some_same {A = Result Token LexError × Span} (x.token, x.span) (Ok k, s) h in (ap (λ p. p.0) e, ap (λ p. p.1) e)
 
-pub span_of : (k : Token) (xs : List Item) (s : Span) → handed xs ≡ Some (Ok k, s) → s ≡ (first_item xs).span
+pub span_of : (k : Token) (xs : List Item) (s : Span) → next_token xs ≡ Some (Ok k, s) → s ≡ (first_item xs).span
 span_of k [] s h = absurd cc
 span_of k (x ∷ xs) s h = sym (both k x s h).1
 
-pub package_taken : (k : Token) (xs : List Item) (s : Span) → plain k ≡ false → handed xs ≡ Some (Ok k, s) → reads_version (first_item xs).text ≡ true → read_token [] k xs ≡ Ok (first_item xs, behind_first xs)
+pub package_taken : (k : Token) (xs : List Item) (s : Span) → plain k ≡ false → next_token xs ≡ Some (Ok k, s) → reads_version (first_item xs).text ≡ true → read_token [] k xs ≡ Ok (first_item xs, after_first_item xs)
 package_taken k [] s p h v = absurd cc
 package_taken k (x ∷ xs) s p h v = let same = same_kind k x (both k x s h).0 in let right = package_valid k x.text p ∙ v in rw (same, right) refl
 
-package_refused : (k : Token) (xs : List Item) (s : Span) → plain k ≡ false → handed xs ≡ Some (Ok k, s) → reads_version (first_item xs).text ≡ false → read_token [] k xs ≡ Err (record { left = xs; expected = can k ∷ []; why = version })
+package_refused : (k : Token) (xs : List Item) (s : Span) → plain k ≡ false → next_token xs ≡ Some (Ok k, s) → reads_version (first_item xs).text ≡ false → read_token [] k xs ≡ Err (record { left = xs; expected = can k ∷ []; why = version })
 package_refused k [] s p h v = absurd cc
 package_refused k (x ∷ xs) s p h v = let same = same_kind k x (both k x s h).0 in let wrong = package_valid k x.text p ∙ v in rw (same, wrong) refl
 
@@ -48,7 +48,7 @@ unfolding told
 version_tells e end k [] h = h
 version_tells e end k (x ∷ xs) h = h
 
-pub version_fails : (e : Error) (end : End) (k : Token) (xs : List Item) (s : Span) → plain k ≡ false → handed xs ≡ Some (Ok k, s) → (told_by e ≡ no_memory) ⊎ ((reads_version (first_item xs).text ≡ false) × (told_by e ≡ version_told (first_item xs).text s)) → Fails e end (read_token [] k xs)
+pub version_fails : (e : Error) (end : End) (k : Token) (xs : List Item) (s : Span) → plain k ≡ false → next_token xs ≡ Some (Ok k, s) → (told_by e ≡ no_memory) ⊎ ((reads_version (first_item xs).text ≡ false) × (told_by e ≡ version_told (first_item xs).text s)) → Fails e end (read_token [] k xs)
 version_fails e end k xs s p h (inl memory) = inl memory
 version_fails e end k xs s p h (inr (v, tells)) =
     same_fails e end (read_token [] k xs) _ (package_refused k xs s p h v) (inr (ap Some (sym (version_tells e end k xs (tells ∙ ap (version_told (first_item xs).text) (span_of k xs s h))))))
@@ -57,12 +57,12 @@ token_refused : (k : Token) (xs : List Item) → at k xs ≡ false → read_toke
 token_refused k [] h = refl
 token_refused k (x ∷ xs) h = rw h refl
 
-pub token_fails : (e : Error) (l : Reading) (k : Token) → at k (left l) ≡ false → told_by e ≡ refusal (handed (left l)) (shown l.source (empty_end l.source)) (expected_one k) → Fails e (end_of_input l) (read_token [] k (left l))
+pub token_fails : (e : Error) (l : Reading) (k : Token) → at k (left l) ≡ false → told_by e ≡ refusal (next_token (left l)) (shown l.source (empty_end l.source)) (expected_one k) → Fails e (end_of_input l) (read_token [] k (left l))
 unfolding told end_of_input
 token_fails e l k h tells = same_fails e (end_of_input l) (read_token [] k (left l)) _ (token_refused k (left l) h) (inr (ap Some (sym tells)))
 
 -- a fault of the text, whatever was tried there
-pub fault_refused : (l : Reading) (k : Token) (t : Told) → fault_at (handed (left l)) ≡ Some t → (not_fault (left l) ≡ false) × ((ts : List Tried) → told (end_of_input l) (record { left = left l; expected = ts; why = other }) ≡ t)
+pub fault_refused : (l : Reading) (k : Token) (t : Told) → fault_at (next_token (left l)) ≡ Some t → (not_fault (left l) ≡ false) × ((ts : List Tried) → told (end_of_input l) (record { left = left l; expected = ts; why = other }) ≡ t)
 unfolding told
 fault_refused l k t h = (go (left l) h, λ ts. told_is (left l) (end_span (end_of_input l) ts) (expected (take 10 (map (λ (t : Tried). t.token) ts)) (length ts)) h)
   where
@@ -73,15 +73,15 @@ fault_refused l k t h = (go (left l) h, λ ts. told_is (left l) (end_span (end_o
     at_fault (Ok n) s e = absurd cc
     at_fault (Err n) s e = (refl, λ end f. some_told (faulty n s) t e)
 
-    go : (xs : List Item) → fault_at (handed xs) ≡ Some t → not_fault xs ≡ false
+    go : (xs : List Item) → fault_at (next_token xs) ≡ Some t → not_fault xs ≡ false
     go [] e = absurd cc
     go (x ∷ xs) e = (at_fault x.token x.span e).0
 
-    told_is : (xs : List Item) (end : Span) (f : Option Token → Span → Told) → fault_at (handed xs) ≡ Some t → refusal (handed xs) end f ≡ t
+    told_is : (xs : List Item) (end : Span) (f : Option Token → Span → Told) → fault_at (next_token xs) ≡ Some t → refusal (next_token xs) end f ≡ t
     told_is [] end f e = absurd cc
     told_is (x ∷ xs) end f e = (at_fault x.token x.span e).1 end f
 
-pub no_fault_there : (xs : List Item) → fault_at (handed xs) ≡ None → not_fault xs ≡ true
+pub no_fault_there : (xs : List Item) → fault_at (next_token xs) ≡ None → not_fault xs ≡ true
 no_fault_there [] h = refl
 no_fault_there (x ∷ xs) h = go x.token h
   where

@@ -1,7 +1,7 @@
 -- What a parser returns, against what reading gives.
 use Rattle.std.specs.Prelude.{◌≡◌, ℕ, List, [], ◌∷◌, ◌++◌, map, take, length, Option, Some, None, Result, Ok, Err, Bool, true, false, codes, ◌⊎◌, ◌-◌}
 use Rattle.wac_lexer.specs.Span.{Span, span, end_of}
-use Rattle.wac_lexer.specs.Item.{Item, handed}
+use Rattle.wac_lexer.specs.Item.{Item, next_token}
 use Rattle.wac_lexer.specs.Reading.{Reading, left, shown}
 use Rattle.wac_lexer.specs.declared.token.Token.{Token}
 use Rattle.wac_lexer.specs.declared.token.Token.TheVariants as tokens
@@ -77,7 +77,7 @@ version_told text s = version_told_at (some_text (version_text text)) s
 abbrev pub told_at : End → Why → List Item → List Tried → Told
 told_at end (empty_body body) xs ts = empty_type (body_name body) (part_name body) (first_span xs)
 told_at end version xs ts = version_told (first_text xs) (first_span xs)
-told_at end why xs ts = refusal (handed (before why ++ xs)) (end_span end ts) (expected (take 10 (map (λ t. t.token) ts)) (length ts))
+told_at end why xs ts = refusal (next_token (before why ++ xs)) (end_span end ts) (expected (take 10 (map (λ t. t.token) ts)) (length ts))
 
 -- what an error reports of the place where reading stopped
 unfoldable pub told : End → Stop → Told
@@ -105,7 +105,7 @@ FailsToTake token old error = Fails error (end_of_input old) (read_token [] toke
 abbrev pub RefusesNext : Token → Reading → Error → Type 0
 RefusesNext token old error =
     (at token (left old) ≡ false)
-    × (told_by error ≡ refusal (handed (left old)) (shown old.source (empty_end old.source)) (expected_one token))
+    × (told_by error ≡ refusal (next_token (left old)) (shown old.source (empty_end old.source)) (expected_one token))
 
 -- The item that was found is not this token, and the error reports it.
 abbrev pub RefusesFound : Token → Result Token Fault × Span → Error → Type 0

@@ -2,7 +2,7 @@
 use Rattle.std.specs.Prelude.{◌≡◌, ℕ, List, [], ◌∷◌, map, take, length, Option, Some, None, Result, Ok, Err, Bool, true, false, cond, Vec}
 use Rattle.std.proofs.Common.{Global}
 use Rattle.wac_lexer.specs.Span.{Span}
-use Rattle.wac_lexer.specs.Item.{Item, handed}
+use Rattle.wac_lexer.specs.Item.{Item, next_token}
 use Rattle.wac_lexer.specs.Reading.{Reading, left, shown}
 use Rattle.wac_lexer.specs.declared.token.Token.{Token}
 use Rattle.wac_lexer.specs.declared.token.Token.TheVariants as t
@@ -143,4 +143,4 @@ body_of _ = λ xs. refuse xs []
 
 -- what is reported where more than one token was tried
 abbrev pub tells : List ℕ → Span → List Item → List Token → Told
-tells source last xs ks = refusal (handed xs) (shown source last) (expected (take 10 ks) (length ks))
+tells source last xs ks = refusal (next_token xs) (shown source last) (expected (take 10 ks) (length ks))

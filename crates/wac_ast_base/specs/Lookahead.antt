@@ -1,7 +1,7 @@
 -- Trying tokens at the next item.
 use Rattle.std.specs.Prelude.{◌≡◌, ℕ, ◌+◌, ◌-◌, ◌^◌, Bool, false, ◌||◌, List, [], ◌∷◌, ◌++◌, take, min, Option, Some, None, Ok, Err, if◌then◌else◌}
 use Rattle.wac_lexer.specs.Span.{Span}
-use Rattle.wac_lexer.specs.Item.{Handed, handed}
+use Rattle.wac_lexer.specs.Item.{NextToken, next_token}
 use Rattle.wac_lexer.specs.Reading.{Reading, left, shown}
 use Rattle.wac_lexer.specs.declared.token.Token.{Token}
 use Rattle.wac_ast_grammar.specs.Tokens.{is_token}
@@ -9,20 +9,20 @@ use Rattle.wac_ast_base.specs.Error.{Told, faulty, expected, places}
 
 -- what is next, the span that is reported at the end of the input, the first ten tokens that were tried, and how many were
 pub record Looked : Type 0 where
-  pub next : Handed
+  pub next : NextToken
   pub span : Span
   pub kept : List Token
   pub count : ℕ
 
 -- before a token is tried
 abbrev pub looked : Reading → Looked
-looked l = record { next = handed (left l); span = shown l.source l.last; kept = []; count = 0 }
+looked l = record { next = next_token (left l); span = shown l.source l.last; kept = []; count = 0 }
 
-abbrev pub is_next : Token → Handed → Bool
+abbrev pub is_next : Token → NextToken → Bool
 is_next token None = false
 is_next token (Some x) = is_token token x.0
 
-abbrev pub is_one_of : List Token → Handed → Bool
+abbrev pub is_one_of : List Token → NextToken → Bool
 is_one_of [] next = false
 is_one_of (token ∷ tokens) next = is_next token next || is_one_of tokens next
 
@@ -42,7 +42,7 @@ abbrev pub InFront : List (Option Token) → Type 0
 InFront attempts = attempts ≡ places 10 (kept_in attempts)
 
 -- what is reported at an item: its own fault, or that another token, or the end, was found
-abbrev pub refusal : Handed → Span → (Option Token → Span → Told) → Told
+abbrev pub refusal : NextToken → Span → (Option Token → Span → Told) → Told
 refusal None end other = other None end
 refusal (Some (Ok token, span)) end other = other (Some token) span
 refusal (Some (Err fault, span)) end other = faulty fault span
@@ -62,11 +62,11 @@ pub record Peeks (firsts : List Token) (result : Bool) (old new : Looked) : Type
   pub kept : new ≡ peeked firsts old
 
 -- what is reported of a fault
-abbrev pub fault_at : Handed → Option Told
+abbrev pub fault_at : NextToken → Option Told
 fault_at None = None
 fault_at (Some (Ok token, span)) = None
 fault_at (Some (Err fault, span)) = Some (faulty fault span)
 
 -- what is reported of a fault that is next
 abbrev pub next_fault : Reading → Option Told
-next_fault l = fault_at (handed (left l))
+next_fault l = fault_at (next_token (left l))

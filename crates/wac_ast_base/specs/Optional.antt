@@ -1,6 +1,6 @@
 -- Optional parts: what a callback after a token returns, and how a fault in the token's place is reported.
 use Rattle.std.specs.Prelude.{◌≡◌, true, false, Option, Some, None, Result, Ok, Err, IfOk, IfSome, IsErrAnd}
-use Rattle.wac_lexer.specs.Item.{handed, behind_first}
+use Rattle.wac_lexer.specs.Item.{next_token, after_first_item}
 use Rattle.wac_lexer.specs.Reading.{Reading, left, Nexts}
 use Rattle.wac_lexer.specs.declared.token.Token.{Token}
 use Rattle.wac_ast_grammar.specs.Tokens.{at}
@@ -16,19 +16,19 @@ AnswersBy calls (Ok (Some x)) new = calls (Ok x) new
 AnswersBy calls (Ok None) new = ⊥
 AnswersBy calls (Err error) new = calls (Err error) new
 
--- Where the token is next it is taken, and the result is what the callback gives behind it.
+-- Where the token is next it is taken, and the result is what the callback gives after it.
 abbrev pub PassesOn : {R E : Type 0} → Token → (Reading → Result R E → Reading → Type 0)
     → Result (Option R) E → Reading → Reading → Type 0
 PassesOn token calls result old new = at token (left old) ≡ true
-    → (behind : Reading) × Nexts old (handed (left old)) behind × AnswersBy (calls behind) result new
+    → (after : Reading) × Nexts old (next_token (left old)) after × AnswersBy (calls after) result new
 
 -- Where each tree that the callback gives derives from the items that it took, so does the one that is given here.
-abbrev pub DerivesBehind : {R E : Type 0} → (Reading → Result R E → Reading → Type 0)
+abbrev pub DerivesAfter : {R E : Type 0} → (Reading → Result R E → Reading → Type 0)
     → Result (Option R) E → Reading → Reading → Type 0
-DerivesBehind {R} calls result old new = (s : Sym) (view : R → TreeOf s)
+DerivesAfter {R} calls result old new = (s : Sym) (view : R → TreeOf s)
     → ((before : Reading) (x : R) (after : Reading) → calls before (Ok x) after
     → Consumed s (left before) (left after) (view x))
-    → IfOk result (λ o. IfSome o (λ x. Consumed s (behind_first (left old)) (left new) (view x)))
+    → IfOk result (λ o. IfSome o (λ x. Consumed s (after_first_item (left old)) (left new) (view x)))
 
 -- Where neither the token nor a fault is next, nothing is given and nothing is taken.
 abbrev pub GivesNone : {R E : Type 0} → Token → Result (Option R) E → Reading → Reading → Type 0

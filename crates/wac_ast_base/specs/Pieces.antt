@@ -35,14 +35,14 @@ part_before s close = sym s ▸ token close
 abbrev pub part_after : Token → Sym → Grammar
 part_after word s = optional (token word ▸ sym s)
 
-abbrev pub behind_word : {A : Type 0} → (Item × A) ⊎ Unit {0} → Option A
-behind_word (inl p) = Some p.1
-behind_word (inr u) = None
+abbrev pub after_word : {A : Type 0} → (Item × A) ⊎ Unit {0} → Option A
+after_word (inl p) = Some p.1
+after_word (inr u) = None
 
 -- The part after this token is given, where the token is next.
 abbrev pub GivesAfter : {X E : Type 0} → Token → (s : Sym) → (Error → E → Type 0) → (X → TreeOf s)
     → Result (Option X) E → Reading → Reading → Type 0
-GivesAfter word s made view = GivesPart (part_after word s) behind_word made (option_map view)
+GivesAfter word s made view = GivesPart (part_after word s) after_word made (option_map view)
 
 -- ---- bodies that may not be empty, by their items
 

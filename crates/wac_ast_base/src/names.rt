@@ -31,7 +31,7 @@ impl<'a> Parse<'a> for Ident<'a> {
     ghost use Rattle.wac_ast_base.specs.Names.{ident_of};
     ghost use Rattle.wac_ast_grammar.specs.Grammar.{identifier};
     ghost use Rattle.wac_ast_grammar.specs.Reading.{read};
-    ghost use Rattle.wac_lexer.specs.Item.{handed};
+    ghost use Rattle.wac_lexer.specs.Item.{next_token};
     ghost use Rattle.wac_lexer.specs.Reading.{left, Nexts};
 
     ghost symbol = { identifier };
@@ -47,7 +47,7 @@ impl<'a> Parse<'a> for Ident<'a> {
         ensures moves { lexer.old.place ≤ lexer.new.place }
         ensures fits { IfOk result (λ x. end_of x.span < 2 ^ 64) }
         // The next item alone is consumed, even where it is rejected.
-        ensures nexts { Nexts lexer.old (handed (left lexer.old)) lexer.new }
+        ensures nexts { Nexts lexer.old (next_token (left lexer.old)) lexer.new }
     {
         let span = parse_token(lexer, Token::Ident)?;
         let text = lexer.source(span);
@@ -82,7 +82,7 @@ impl<'a> Parse<'a> for String<'a> {
     ghost use Rattle.wac_ast_base.specs.Answer.{Gives};
     ghost use Rattle.wac_ast_base.specs.Names.{string_of};
     ghost use Rattle.wac_ast_grammar.specs.Reading.{read};
-    ghost use Rattle.wac_lexer.specs.Item.{handed};
+    ghost use Rattle.wac_lexer.specs.Item.{next_token};
     ghost use Rattle.wac_lexer.specs.Reading.{left, Nexts};
 
     ghost symbol = { symbols.string };
@@ -98,7 +98,7 @@ impl<'a> Parse<'a> for String<'a> {
         ensures moves { lexer.old.place ≤ lexer.new.place }
         ensures fits { IfOk result (λ x. end_of x.span < 2 ^ 64) }
         // The next item alone is consumed, even where it is rejected.
-        ensures nexts { Nexts lexer.old (handed (left lexer.old)) lexer.new }
+        ensures nexts { Nexts lexer.old (next_token (left lexer.old)) lexer.new }
     {
         let span = parse_token(lexer, Token::String)?;
         Ok(String {
@@ -122,8 +122,8 @@ impl<'a> Peek for String<'a> {
 fn between_quotes(text: &str) -> &str
     ensures { result.now ≡ between_quotes text.now }
 {
-    let behind = text.strip_prefix('"').unwrap_or(text);
-    behind.strip_suffix('"').unwrap_or(behind)
+    let after = text.strip_prefix('"').unwrap_or(text);
+    after.strip_suffix('"').unwrap_or(after)
 }
 
 /// A documentation comment.

@@ -96,7 +96,7 @@ impl<'a> Parse<'a> for PackagePath<'a> {
             span: found.span,
             string: found.text,
             name: before_slash(found.text),
-            segments: behind_slash(found.name),
+            segments: text_after_slash(found.name),
             version: found.version,
         })
     }
@@ -123,7 +123,7 @@ fn before_slash(text: &str) -> &str
 }
 
 /// The text after the first `/`.
-fn behind_slash(text: &str) -> &str
+fn text_after_slash(text: &str) -> &str
     ensures { result.now ≡ after_slash text.now }
 {
     match text.split_once('/') {

@@ -2,7 +2,7 @@
 
 ghost use Rattle.std.specs.Prelude.{◌≡◌, ◌≤◌, ◌<◌, ◌^◌, true, false, IfOk, IfErr, Some, Ok, map, [], List, OnOk, ◌++◌, ◌∷◌, alloc_error, IfSome, None, MatchResult};
 ghost use Rattle.wac_lexer.specs.Span.{span, end_of};
-ghost use Rattle.wac_lexer.specs.Item.{handed, behind_first, OnFirst};
+ghost use Rattle.wac_lexer.specs.Item.{next_token, after_first_item, OnFirst};
 ghost use Rattle.wac_lexer.specs.Reading.{left, slice, Slices, Nexts};
 ghost use Rattle.wac_ast_grammar.specs.Tokens.{at};
 ghost use Rattle.wac_ast_grammar.specs.Tree.{join as joined};
@@ -15,7 +15,7 @@ ghost use Rattle.wac_ast_base.specs.Names.{doc_comment_of};
 ghost use Rattle.wac_lexer.specs.declared.token.Token as the_token;
 ghost use Rattle.wac_ast_base.specs.declared.error.Error.TheVariants.{Memory};
 ghost use Rattle.std.specs.Fn.{FnOnceReturnsAtMut};
-ghost use Rattle.wac_ast_base.specs.Optional.{PassesOn, DerivesBehind, GivesNone, FailsBy, ReportsFault};
+ghost use Rattle.wac_ast_base.specs.Optional.{PassesOn, DerivesAfter, GivesNone, FailsBy, ReportsFault};
 ghost use Rattle.wac_lexer.specs.declared.token.Token.TheVariants as tokens;
 
 use crate::error::{Error, ParseResult};
@@ -61,11 +61,11 @@ pub trait Peek {
 /// The item is taken even where it is rejected. At the end of the input the error has the lexer's `span` there.
 #[tactic(auto, unfolding(crate::specs::Answer::told, crate::specs::Answer::end_of_input))]
 pub fn parse_token(lexer: &mut Lexer, expected: Token) -> ParseResult<SourceSpan>
-    ensures ok { IfOk result (λ s. handed (left lexer.old) ≡ Some (Ok expected, s)) }
+    ensures ok { IfOk result (λ s. next_token (left lexer.old) ≡ Some (Ok expected, s)) }
     ensures refused { IfErr result (RefusesNext expected lexer.old) }
     // The item is consumed, whether it is the token or not.
-    ensures nexts { Nexts lexer.old (handed (left lexer.old)) lexer.new }
-    ensures rest { left lexer.new ≡ behind_first (left lexer.old) }
+    ensures nexts { Nexts lexer.old (next_token (left lexer.old)) lexer.new }
+    ensures rest { left lexer.new ≡ after_first_item (left lexer.old) }
     ensures source { lexer.new.source ≡ lexer.old.source }
     ensures moves { lexer.old.place ≤ lexer.new.place }
     ensures slices { IfOk result (λ s. Slices lexer.new.source s) }
@@ -153,7 +153,7 @@ pub fn at(lexer: &Lexer, token: Token) -> bool
 
 /// Whether the item after the next is this token.
 pub fn at_second(lexer: &Lexer, token: Token) -> bool
-    ensures { result ≡ at token (behind_first (left lexer.now)) }
+    ensures { result ≡ at token (after_first_item (left lexer.now)) }
 {
     match lexer.peek2() {
         Some((Ok(found), _)) => found == token,
@@ -237,7 +237,7 @@ pub fn parse_optional<'a, R, E: From<Error>, F: FnOnce(&mut Lexer<'a>) -> Result
     // Where the token is next it is taken, and the callback's result is passed on.
     ensures called { PassesOn expected (FnOnceReturnsAtMut F.FnOnce cb) result lexer.old lexer.new }
     // Where each tree that the callback gives derives from the items that it took, so does what is given here.
-    ensures derives { DerivesBehind (FnOnceReturnsAtMut F.FnOnce cb) result lexer.old lexer.new }
+    ensures derives { DerivesAfter (FnOnceReturnsAtMut F.FnOnce cb) result lexer.old lexer.new }
     // Another token and the end give nothing.
     ensures none { GivesNone expected result lexer.old lexer.new }
     // A fault is rejected, and not taken.

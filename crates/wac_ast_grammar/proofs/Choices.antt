@@ -45,34 +45,34 @@ first_right : (g h : Grammar) (xs : List Item) → at_one_of (first g ++ first h
 first_right g h xs e = neither_right (at_one_of (first g) xs) (at_one_of (first h) xs) (back (at_append (first g) (first h) xs) ∙ e)
 
 -- after tokens that were tried
-behind_tried : (g : Grammar) (t : Tried) (ts : List Tried) (xs : List Item) → is_choice g ≡ true → at_one_of (first g) xs ≡ false → read_in read g (t ∷ ts) xs ≡ refuse xs ((t ∷ ts) ++ map can (first g))
-behind_tried (token k) t ts xs c h = token_refused k (t ∷ ts) xs (neither_left (at k xs) false h)
-behind_tried (sym s) t ts xs c h = rw h refl
-behind_tried (then g l) t ts xs c h = go (is_empty g) refl c h (behind_tried g t ts xs)
+after_tried : (g : Grammar) (t : Tried) (ts : List Tried) (xs : List Item) → is_choice g ≡ true → at_one_of (first g) xs ≡ false → read_in read g (t ∷ ts) xs ≡ refuse xs ((t ∷ ts) ++ map can (first g))
+after_tried (token k) t ts xs c h = token_refused k (t ∷ ts) xs (neither_left (at k xs) false h)
+after_tried (sym s) t ts xs c h = rw h refl
+after_tried (then g l) t ts xs c h = go (is_empty g) refl c h (after_tried g t ts xs)
   where
     go : (b : Bool) → is_empty g ≡ b → cond b false (is_choice g) ≡ true → at_one_of (cond b (first g ++ first l) (first g)) xs ≡ false → (is_choice g ≡ true → at_one_of (first g) xs ≡ false → read_in read g (t ∷ ts) xs ≡ refuse xs ((t ∷ ts) ++ map can (first g))) → read_in read (then g l) (t ∷ ts) xs ≡ refuse xs ((t ∷ ts) ++ map can (first (then g l)))
     go true e c h f = absurd cc
     go false e c h f = ap (λ m. two m (λ a. read_in read l [])) (f c h) ∙ ap (λ (b : Bool). refuse xs ((t ∷ ts) ++ map can (cond b (first g ++ first l) (first g)))) (back e)
-behind_tried (either true g l) t ts xs c h =
+after_tried (either true g l) t ts xs c h =
     let no_first = first_left g l xs h in
-    let rest = behind_tried l t (ts ++ map can (first g)) xs (second (is_empty g) (is_choice l) c) (first_right g l xs h) in
+    let rest = after_tried l t (ts ++ map can (first g)) xs (second (is_empty g) (is_choice l) c) (first_right g l xs h) in
     rw (no_first, rest, map_append (first g) (first l), append_assoc ts (map can (first g)) (map can (first l))) refl
   where
     second : (b d : Bool) → cond b false d ≡ true → d ≡ true
     second true d h = absurd cc
     second false d h = h
-behind_tried (either false g l) t ts xs c h = absurd cc
-behind_tried (docs g) t ts xs c h = rw (behind_tried g t ts xs c h) refl
-behind_tried (nothing b) t ts xs c h = absurd cc
-behind_tried (to_end g) t ts xs c h = absurd cc
-behind_tried (not_empty b k g) t ts xs c h = absurd cc
-behind_tried (more k s g) t ts xs c h = absurd cc
-behind_tried (or_told g k l) t ts xs c h = absurd cc
+after_tried (either false g l) t ts xs c h = absurd cc
+after_tried (docs g) t ts xs c h = rw (after_tried g t ts xs c h) refl
+after_tried (nothing b) t ts xs c h = absurd cc
+after_tried (to_end g) t ts xs c h = absurd cc
+after_tried (not_empty b k g) t ts xs c h = absurd cc
+after_tried (more k s g) t ts xs c h = absurd cc
+after_tried (or_told g k l) t ts xs c h = absurd cc
 
 -- the alternatives of a production
 pub none_of : (g l : Grammar) (k : Token) (ks : List Token) → first g ≡ k ∷ ks → is_choice l ≡ true → (xs : List Item) → at_one_of (first g ++ first l) xs ≡ false → read_in read (either true g l) [] xs ≡ refuse xs (map can (first g ++ first l))
 none_of g l k ks begins c xs h =
     let no_first = first_left g l xs h in
     let tried : map can (first g) ≡ can k ∷ map can ks = ap (λ (l : List Token). map can l) begins in
-    let rest : read_in read l (map can (first g)) xs ≡ refuse xs (map can (first g) ++ map can (first l)) = subst (λ (ts : List Tried). read_in read l ts xs ≡ refuse xs (ts ++ map can (first l))) (back tried) (behind_tried l (can k) (map can ks) xs c (first_right g l xs h)) in
+    let rest : read_in read l (map can (first g)) xs ≡ refuse xs (map can (first g) ++ map can (first l)) = subst (λ (ts : List Tried). read_in read l ts xs ≡ refuse xs (ts ++ map can (first l))) (back tried) (after_tried l (can k) (map can ks) xs c (first_right g l xs h)) in
     rw (no_first, rest, map_append (first g) (first l)) refl

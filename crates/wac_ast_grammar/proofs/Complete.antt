@@ -2,8 +2,8 @@
 use Rattle.std.proofs.Common.{◌≡◌, ℕ, zero, suc, List, [], ◌∷◌, ◌++◌, map, Result, Ok, Err, Bool, true, false, cond, refl, sym as back, ap, subst, ◌∙◌, inl, inr, append_assoc, eq-eqb}
 use Rattle.wac_ast_grammar.proofs.Common.{append-nil, Error, Token, Item, Doc}
 use Rattle.wac_ast_grammar.specs.Tokens.{is_token, is_bad, is_fault, at, kind, valid}
-use Rattle.wac_ast_grammar.proofs.Tables.{continues, all_tokens, one_of, at_one_of_head, at_one_of_nil, one_of_append, among, negated, apart, always, among_is, not_true, apart_not, away_from, others, clashes, needs_more, clash_behind, needs_behind, clash, needs, pickable, lawful, within, rule_lawful, begins_is, clashes_is, needs_is, every_token}
-use Rattle.wac_ast_grammar.specs.Grammar.{Sym, rule, TreeOf, Parts, Behind, anything, no_fault, one_among, Grammar, token, sym, then, either, nothing, to_end, docs, not_empty, more, or_told, docs_of, DerivesIn, DerivesBy, Derives}
+use Rattle.wac_ast_grammar.proofs.Tables.{continues, all_tokens, one_of, at_one_of_head, at_one_of_nil, one_of_append, among, negated, apart, always, among_is, not_true, apart_not, away_from, others, clashes, needs_more, clash_after, needs_after, clash, needs, pickable, lawful, within, rule_lawful, begins_is, clashes_is, needs_is, every_token}
+use Rattle.wac_ast_grammar.specs.Grammar.{Sym, rule, TreeOf, Parts, After, anything, no_fault, one_among, Grammar, token, sym, then, either, nothing, to_end, docs, not_empty, more, or_told, docs_of, DerivesIn, DerivesBy, Derives}
 use Rattle.wac_ast_grammar.specs.Reading.{Tried, can, closes, Stop, mapped, pair_with, read, read_in, read_token, led, two, built, empty, is_empty, begins, first, at_one_of, may_leave}
 use Rattle.wac_ast_grammar.proofs.Fixed.{read_is, empty_is, both, both_left, both_right, Reader}
 
@@ -148,7 +148,7 @@ remains ks (l ∷ ls) x h n = go (is_token l x.token) refl h (among l ks) refl n
     go true e h false a n r = let k : one_of (l ∷ away_from ks ls) x ≡ true = rw e refl in absurd cc
     go false e h false a n r = r h (ap (λ b. cond b true (one_of (away_from ks ls) x)) (back e) ∙ n)
 
-may_stay : (b : Behind) (rest : List Item) → may_follow (needs_behind b) (clash_behind b) rest ≡ true → may_leave b rest ≡ true
+may_stay : (b : After) (rest : List Item) → may_follow (needs_after b) (clash_after b) rest ≡ true → may_leave b rest ≡ true
 may_stay anything rest f = refl
 may_stay no_fault [] f = refl
 may_stay no_fault (x ∷ xs) f = both_left (negated (is_fault x)) (negated false) f

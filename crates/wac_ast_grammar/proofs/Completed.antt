@@ -5,7 +5,7 @@ use Rattle.wac_lexer.specs.declared.token.Token.TheVariants as t
 use Rattle.wac_ast_grammar.specs.Tokens.{is_token, kind, valid}
 use Rattle.wac_ast_grammar.proofs.Tables.{all_tokens, among, within, same_token, begins_is}
 use Rattle.wac_ast_grammar.specs.Grammar.{Sym, rule, build, TreeOf, Parts, Grammar, token, sym, then, either, nothing, to_end, docs, not_empty, more, or_told, docs_of, DerivesIn, DerivesBy, Derives}
-use Rattle.wac_ast_grammar.specs.Reading.{Standing, at_once, closing, behind_comma, Tried, can, follows, empty, is_empty, begins, first}
+use Rattle.wac_ast_grammar.specs.Reading.{Standing, at_once, closing, after_comma, Tried, can, follows, empty, is_empty, begins, first}
 use Rattle.wac_ast_grammar.proofs.Ranks.{rank}
 use Rattle.wac_ast_grammar.specs.Possible.{same_standing, named, IsOf}
 use Rattle.wac_ast_grammar.proofs.Fixed.{both_left, both_right, empty_is, ranked, rule_ranked}
@@ -52,7 +52,7 @@ pub named_cans : (k : Token) (ks : List Token) → named at_once k (map can ks) 
 named_cans k [] = refl
 named_cans k (l ∷ ks) = ap (λ b. cond (same_token l k) true b) (named_cans k ks)
 
-pub named_follows : (k : Token) (ks : List Token) → named behind_comma k (map follows ks) ≡ among k ks
+pub named_follows : (k : Token) (ks : List Token) → named after_comma k (map follows ks) ≡ among k ks
 named_follows k [] = refl
 named_follows k (l ∷ ks) = ap (λ b. cond (same_token l k) true b) (named_follows k ks)
 
@@ -64,14 +64,14 @@ cans_once closing k ks h = let e = none ks in absurd cc
     none : (ks : List Token) → named closing k (map can ks) ≡ false
     none [] = refl
     none (l ∷ ks) = none ks
-cans_once behind_comma k ks h = let e = none ks in absurd cc
+cans_once after_comma k ks h = let e = none ks in absurd cc
   where
-    none : (ks : List Token) → named behind_comma k (map can ks) ≡ false
+    none : (ks : List Token) → named after_comma k (map can ks) ≡ false
     none [] = refl
     none (l ∷ ks) = none ks
 
-pub follows_later : (m : Standing) (k : Token) (ks : List Token) → named m k (map follows ks) ≡ true → (m ≡ behind_comma) × (among k ks ≡ true)
-follows_later behind_comma k ks h = (refl, back (named_follows k ks) ∙ h)
+pub follows_later : (m : Standing) (k : Token) (ks : List Token) → named m k (map follows ks) ≡ true → (m ≡ after_comma) × (among k ks ≡ true)
+follows_later after_comma k ks h = (refl, back (named_follows k ks) ∙ h)
 follows_later closing k ks h = let e = none ks in absurd cc
   where
     none : (ks : List Token) → named closing k (map follows ks) ≡ false

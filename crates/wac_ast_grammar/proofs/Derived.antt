@@ -344,9 +344,9 @@ module _ (P : Asked) (S : Span → Type 0) (D : List Doc → Type 0) (M : Made P
   front [] b h = tt
   front (x ∷ a) b h = (h.0, front a b h.1)
 
-  behind : (a b : List Item) → AllKnown (a ++ b) → AllKnown b
-  behind [] b h = h
-  behind (x ∷ a) b h = behind a b h.1
+  after : (a b : List Item) → AllKnown (a ++ b) → AllKnown b
+  after [] b h = h
+  after (x ∷ a) b h = after a b h.1
 
   docs_hold : (xs : List Item) → AllKnown xs → D (docs_of xs)
   docs_hold [] h = M.no_docs
@@ -358,7 +358,7 @@ module _ (P : Asked) (S : Span → Type 0) (D : List Doc → Type 0) (M : Made P
     parts_hold (sym s) xs x h d = each s xs x h d
     parts_hold (then g k) xs p h d =
         let all = subst AllKnown d.2 h in
-        (parts_hold g d.0 p.0 (front d.0 d.1 all) d.3, parts_hold k d.1 p.1 (behind d.0 d.1 all) d.4)
+        (parts_hold g d.0 p.0 (front d.0 d.1 all) d.3, parts_hold k d.1 p.1 (after d.0 d.1 all) d.4)
     parts_hold (either loud g k) xs (inl p) h d = parts_hold g xs p h d
     parts_hold (either loud g k) xs (inr p) h d = parts_hold k xs p h d
     parts_hold (nothing b) xs p h d = tt

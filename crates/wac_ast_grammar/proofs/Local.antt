@@ -2,7 +2,7 @@
 use Rattle.std.proofs.Common.{◌≡◌, ℕ, zero, suc, ◌+◌, ◌-◌, ◌≤◌, arith, List, [], ◌∷◌, ◌++◌, length, map, Result, Ok, Err, Bool, true, false, cond, refl, sym as back, ap, subst, ◌∙◌, ◌⊎◌, inl, inr}
 use Rattle.wac_ast_grammar.proofs.Common.{Token, Item, Doc, Error}
 use Rattle.wac_ast_grammar.specs.Tokens.{is_token, is_bad, valid, at}
-use Rattle.wac_ast_grammar.specs.Grammar.{Sym, rule, build, TreeOf, Parts, Behind, anything, no_fault, one_among, Grammar, token, sym, then, either, nothing, to_end, docs, not_empty, more, or_told, docs_of, Derives}
+use Rattle.wac_ast_grammar.specs.Grammar.{Sym, rule, build, TreeOf, Parts, After, anything, no_fault, one_among, Grammar, token, sym, then, either, nothing, to_end, docs, not_empty, more, or_told, docs_of, Derives}
 use Rattle.wac_ast_grammar.specs.Reading.{Tried, can, closes, follows, Stop, Why, other, version, empty_body, told, refuse, mapped, pair_with, read, read_by, read_in, read_token, read_sym, led, two, begins, first, at_one_of, may_leave}
 use Rattle.wac_ast_grammar.proofs.Ranks.{measure}
 use Rattle.wac_ast_grammar.proofs.Fixed.{Reader, agree_read}
@@ -140,7 +140,7 @@ module _ (whole : Bool) where
   same_at n k (x ∷ xs) [] h = absurd h
   same_at n k (x ∷ xs) (y ∷ ys) h = ap (is_token k) (nearly whole n x y xs ys h).0
 
-  same_leave : (n : ℕ) (b : Behind) (xs ys : List Item) → Alike whole (suc n) xs ys → may_leave b xs ≡ may_leave b ys
+  same_leave : (n : ℕ) (b : After) (xs ys : List Item) → Alike whole (suc n) xs ys → may_leave b xs ≡ may_leave b ys
   same_leave n anything xs ys h = refl
   same_leave n no_fault [] [] h = refl
   same_leave n no_fault [] (y ∷ ys) h = absurd h

@@ -4,7 +4,7 @@ use Rattle.wac_ast_grammar.proofs.Common.{append-nil, length-append, Token, Item
 use Rattle.wac_lexer.specs.declared.token.Token.TheVariants as t
 use Rattle.wac_ast_grammar.specs.Tokens.{is_token}
 use Rattle.wac_ast_grammar.specs.Grammar.{Sym, argument, rule, build, TreeOf, Parts, Grammar, DerivesIn, DerivesBy, Derives}
-use Rattle.wac_ast_grammar.specs.Reading.{Standing, at_once, closing, behind_comma, Stop, before, other, read, read_by, read_in, is_empty, enough}
+use Rattle.wac_ast_grammar.specs.Reading.{Standing, at_once, closing, after_comma, Stop, before, other, read, read_by, read_in, is_empty, enough}
 use Rattle.wac_ast_grammar.specs.Viable.{Viable, Similar, Leads}
 use Rattle.wac_ast_grammar.specs.Possible.{named}
 use Rattle.wac_ast_grammar.specs.Stopped.{Fault, CanStand, CanFollowComma, Stands, Stopped}
@@ -15,7 +15,7 @@ use Rattle.wac_ast_grammar.proofs.Sound.{Fronted, by_sound}
 use Rattle.wac_ast_grammar.proofs.Similar.{leads_similar, leads_self, derives_similar}
 use Rattle.wac_ast_grammar.proofs.Local.{Alike, Nearly, Seen, Ends, reads_alike, not_derived}
 use Rattle.wac_ast_grammar.proofs.Completed.{by_rule}
-use Rattle.wac_ast_grammar.proofs.Stops.{Stops, stops_in, stops_here, stops_pass, no_named, Goes, AtOnce, BehindComma}
+use Rattle.wac_ast_grammar.proofs.Stops.{Stops, stops_in, stops_here, stops_pass, no_named, Goes, AtOnce, AfterComma}
 use Rattle.wac_ast_grammar.proofs.Samples.{sample, item, some_item}
 
 nothing_of : (g : Grammar) (p : Parts g) → is_empty g ≡ false → DerivesIn Derives g [] p → ⊥
@@ -52,13 +52,13 @@ alike_front whole [] x y rest tail h = h
 alike_front whole (z ∷ front) x y rest tail h = (refl, alike_front whole front x y rest tail h)
 
 -- What may follow a part that this item does not continue: nothing, and after an argument another token.
-behind : (s : Sym) (x : Item) → (tail : List Item) × (may_follow (needs_more s) (clashes s) tail ≡ true) × ((z : Item) (zs : List Item) → tail ≡ z ∷ zs → x ≡ z → ⊥)
-behind argument x = go (is_token t.Comma x.token) refl
+after : (s : Sym) (x : Item) → (tail : List Item) × (may_follow (needs_more s) (clashes s) tail ≡ true) × ((z : Item) (zs : List Item) → tail ≡ z ∷ zs → x ≡ z → ⊥)
+after argument x = go (is_token t.Comma x.token) refl
   where
     go : (b : Bool) → is_token t.Comma x.token ≡ b → (tail : List Item) × (may_follow (needs_more argument) (clashes argument) tail ≡ true) × ((z : Item) (zs : List Item) → tail ≡ z ∷ zs → x ≡ z → ⊥)
     go true h = (item t.CloseBrace ∷ [], refl, λ z zs e i. let k : is_token t.Comma x.token ≡ false = ap (λ (y : Item). is_token t.Comma y.token) (i ∙ back (first_is (item t.CloseBrace) z [] zs e)) in absurd cc)
     go false h = (item t.Comma ∷ [], refl, λ z zs e i. let k : is_token t.Comma x.token ≡ true = ap (λ (y : Item). is_token t.Comma y.token) (i ∙ back (first_is (item t.Comma) z [] zs e)) in absurd cc)
-behind _ x = ([], refl, λ z zs e i. absurd cc)
+after _ x = ([], refl, λ z zs e i. absurd cc)
 
 -- What is viable with an item continues to a whole part, which begins like the items that were read.
 continued : (s : Sym) (front : List Item) (y : Item) → Viable s (front ++ (y ∷ []))
@@ -77,7 +77,7 @@ continued s front y v =
 no_way : (whole : Bool) (s : Sym) (xs front : List Item) (stop : Stop) → read s xs ≡ Err stop → (x : Item) (rest : List Item) → stop.left ≡ x ∷ rest → xs ≡ front ++ (x ∷ rest) → Seen whole stop.why 0 → (y : Item) → Nearly whole x y → Viable s (front ++ (y ∷ [])) → ⊥
 no_way whole s xs front stop h x rest l e seen y m v =
     let u = continued s front y v in
-    let b = behind s x in
+    let b = after s x in
     let len = ap length e ∙ length-append front (x ∷ rest) in
     let left_len = ap length l in
     let i : suc (length front) ≡ suc 0 + (length xs - length stop.left) = omega arith in
@@ -122,14 +122,14 @@ stopped_in s xs stop h n =
     once : (lead : List Item) (k : Token) → AtOnce (Derives s) lead k → CanStand s lead k
     once lead k f = λ x i. let a = f x i in viable_of s (lead ++ (x ∷ [])) a.0 a.1 (subst (λ (ys : List Item). Derives s ys a.1) (back (append_assoc lead (x ∷ []) a.0)) a.2)
 
-    comma : (lead : List Item) (k : Token) → BehindComma (Derives s) lead k → CanFollowComma s lead k
+    comma : (lead : List Item) (k : Token) → AfterComma (Derives s) lead k → CanFollowComma s lead k
     comma lead k f = λ c x n i. let a = f c x n i in viable_of s (lead ++ (c ∷ x ∷ [])) a.0 a.1 (subst (λ (ys : List Item). Derives s ys a.1) (back (append_assoc lead (c ∷ x ∷ []) a.0)) a.2)
 
     go : (lead : List Item) (m : Standing) (k : Token) → ((named m k [] ≡ true) × (lead ≡ [])) ⊎ Goes (Derives s) lead stop.left m k → Stands s lead stop.left k m
     go lead m k (inl n) = no_named m k n.0
     go lead at_once k (inr f) = once lead k f
     go lead closing k (inr f) = tt
-    go lead behind_comma k (inr f) = ((f.0, f.1, once lead f.1 f.2, comma lead f.1 f.3), comma lead k f.4)
+    go lead after_comma k (inr f) = ((f.0, f.1, once lead f.1 f.2, comma lead f.1 f.3), comma lead k f.4)
 
 pub stopped : (s : Sym) → needs_more s ≡ false → (xs : List Item) (stop : Stop) → read s xs ≡ Err stop → Stopped s xs stop
 stopped s n xs stop h = stopped_in s xs stop h (λ e t d. let k = back (complete s xs t n d) ∙ h in absurd cc)
@@ -138,7 +138,7 @@ stopped s n xs stop h = stopped_in s xs stop h (λ e t d. let k = back (complete
 pub stays : (s : Sym) (xs front rest : List Item) (t : TreeOf s) (x : Item) → read s xs ≡ Ok (t, x ∷ rest) → xs ≡ front ++ (x ∷ rest) → Viable s (front ++ (x ∷ [])) → ⊥
 stays s xs front rest t x h e v =
     let u = continued s front x v in
-    let b = behind s x in
+    let b = after s x in
     let alike = u.3 true x rest xs b.0 refl e in
     let ends = subst (λ (m : Result (TreeOf s × List Item) Stop). Ends true (suc (length front)) xs m (read s (u.0 ++ b.0))) h (reads_alike true s (suc (length front)) xs (u.0 ++ b.0) alike) in
     let len = ap length e ∙ length-append front (x ∷ rest) in
@@ -149,6 +149,6 @@ stays s xs front rest t x h e v =
     rest_of (Ok y) = y.1
     rest_of (Err q) = []
 
-    go : (zs : List Item) → Alike true 1 (x ∷ rest) zs → (behind s x).0 ≡ zs → ⊥
+    go : (zs : List Item) → Alike true 1 (x ∷ rest) zs → (after s x).0 ≡ zs → ⊥
     go [] a k = a
-    go (z ∷ zs) a k = (behind s x).2 z zs k a
+    go (z ∷ zs) a k = (after s x).2 z zs k a

@@ -4,7 +4,7 @@ use Rattle.wac_ast_grammar.proofs.Common.{Token, append-nil, Item}
 use Rattle.wac_lexer.specs.declared.token.Token.TheVariants as t
 use Rattle.wac_ast_grammar.specs.Tokens.{is_token, valid, at}
 use Rattle.wac_ast_grammar.specs.Grammar.{Sym, Parts, Grammar, token, sym, then, either, nothing, to_end, docs, not_empty, more, or_told, docs_of, DerivesIn, Derives}
-use Rattle.wac_ast_grammar.specs.Reading.{Standing, at_once, closing, behind_comma, Tried, can, closes, follows, Stop, Why, other, version, empty_body, told, before, refuse, ◌>>=◌, mapped, pair_with, read_in, read_token, read_sym, led, two, is_empty, begins, first, at_one_of, may_leave}
+use Rattle.wac_ast_grammar.specs.Reading.{Standing, at_once, closing, after_comma, Tried, can, closes, follows, Stop, Why, other, version, empty_body, told, before, refuse, ◌>>=◌, mapped, pair_with, read_in, read_token, read_sym, led, two, is_empty, begins, first, at_one_of, may_leave}
 use Rattle.wac_ast_grammar.specs.Possible.{named, IsOf}
 use Rattle.wac_ast_grammar.proofs.Fixed.{Reader, both, both_left, both_right, ranked}
 use Rattle.wac_ast_grammar.proofs.Tables.{always, among, same_token, within, back_token, continues, negated, apart, pickable, clash, lawful, both_lawful}
@@ -16,14 +16,14 @@ abbrev pub AtOnce : {A : Type 0} → (List Item → A → Type 0) → List Item 
 AtOnce {A = A} D lead k = (x : Item) → IsOf k x → (zs : List Item) × (p : A) × D (lead ++ (x ∷ zs)) p
 
 -- and after a comma there
-abbrev pub BehindComma : {A : Type 0} → (List Item → A → Type 0) → List Item → Token → Type 0
-BehindComma {A = A} D lead k = (c x : Item) → IsOf t.Comma c → IsOf k x → (zs : List Item) × (p : A) × D (lead ++ (c ∷ x ∷ zs)) p
+abbrev pub AfterComma : {A : Type 0} → (List Item → A → Type 0) → List Item → Token → Type 0
+AfterComma {A = A} D lead k = (c x : Item) → IsOf t.Comma c → IsOf k x → (zs : List Item) × (p : A) × D (lead ++ (c ∷ x ∷ zs)) p
 
 -- How the token can occur after `lead`, where `left` is left.
 abbrev pub Goes : {A : Type 0} → (List Item → A → Type 0) → List Item → List Item → Standing → Token → Type 0
 Goes D lead left at_once k = AtOnce D lead k
 Goes D lead left closing k = Unit {0}
-Goes D lead left behind_comma k = (left ≡ []) × (close : Token) × AtOnce D lead close × BehindComma D lead close × BehindComma D lead k
+Goes D lead left after_comma k = (left ≡ []) × (close : Token) × AtOnce D lead close × AfterComma D lead close × AfterComma D lead k
 
 abbrev pub Early : {A : Type 0} → (List Item → A → Type 0) → Standing → Token → Type 0
 Early D m k = (left : List Item) → Goes D [] left m k
@@ -49,13 +49,13 @@ Carries {A = A} {B = B} D E lead front = (zs : List Item) (a : A) → D (lead ++
 once_on : {A B : Type 0} (D : List Item → A → Type 0) (E : List Item → B → Type 0) (lead front : List Item) → Carries D E lead front → (k : Token) → AtOnce D lead k → AtOnce E (front ++ lead) k
 once_on D E lead front h k g = λ x i. let a = g x i in let b = h (x ∷ a.0) a.1 a.2 in (a.0 ++ b.0, b.1, subst (λ (us : List Item). E us b.1) (back b.2.1) b.2.2)
 
-comma_on : {A B : Type 0} (D : List Item → A → Type 0) (E : List Item → B → Type 0) (lead front : List Item) → Carries D E lead front → (k : Token) → BehindComma D lead k → BehindComma E (front ++ lead) k
+comma_on : {A B : Type 0} (D : List Item → A → Type 0) (E : List Item → B → Type 0) (lead front : List Item) → Carries D E lead front → (k : Token) → AfterComma D lead k → AfterComma E (front ++ lead) k
 comma_on D E lead front h k g = λ c x n i. let a = g c x n i in let b = h (c ∷ x ∷ a.0) a.1 a.2 in (a.0 ++ b.0, b.1, subst (λ (us : List Item). E us b.1) (back b.2.1) b.2.2)
 
 goes_on : {A B : Type 0} (D : List Item → A → Type 0) (E : List Item → B → Type 0) (lead front left : List Item) → Carries D E lead front → (m : Standing) (k : Token) → Goes D lead left m k → Goes E (front ++ lead) left m k
 goes_on D E lead front left h at_once k g = once_on D E lead front h k g
 goes_on D E lead front left h closing k g = tt
-goes_on D E lead front left h behind_comma k g = (g.0, g.1, once_on D E lead front h g.1 g.2, comma_on D E lead front h g.1 g.3, comma_on D E lead front h k g.4)
+goes_on D E lead front left h after_comma k g = (g.0, g.1, once_on D E lead front h g.1 g.2, comma_on D E lead front h g.1 g.3, comma_on D E lead front h k g.4)
 
 goes_map : {A B : Type 0} (D : List Item → A → Type 0) (E : List Item → B → Type 0) → ((ys : List Item) (a : A) → D ys a → (b : B) × E ys b) → (lead left : List Item) (m : Standing) (k : Token) → Goes D lead left m k → Goes E lead left m k
 goes_map D E h lead left m k g = goes_on D E lead [] left (λ zs a d. let b = h (lead ++ zs) a d in ([], b.0, (lead ++ zs, ap (λ (us : List Item). lead ++ us) (append-nil zs), b.1))) m k g
@@ -230,7 +230,7 @@ module _ (sample : (s : Sym) → Sample (Derives s)) (item : (k : Token) → (x 
         go m l (inl n) = inl n
         go at_once l (inr n) = absurd cc
         go closing l (inr n) = inr (λ left. tt)
-        go behind_comma l (inr n) = absurd cc
+        go after_comma l (inr n) = absurd cc
     stops_in (more k s g) tried [] ok =
         let in_g = both_right (both (lawful g) (negated (is_empty g))) (both (among k (first g)) (continues (k ∷ begins s) g)) ok in
         let closer = firsts_of g (all_rank g) k (both_left (among k (first g)) (continues (k ∷ begins s) g) in_g) in
@@ -248,7 +248,7 @@ module _ (sample : (s : Sym) → Sample (Derives s)) (item : (k : Token) → (x 
         (stops_pass (DerivesIn Derives g) E inl tried [] (λ ys a d. (inl a, d)) (λ m l n. no_named m l n) xs (read_in rec g [] xs) (stops_in g [] xs oks.0))
         (subst (λ (m : Result (Parts (or_told g k h) × List Item) Stop). Stops E tried xs m) (joined (read_token (tried ++ map can (first g)) k xs))
         (token_stops E tried (tried ++ map can (first g)) k (let a = some_of g in (a.0, inl a.1, a.2)) told_some (named_firsts E tried (first g) g_firsts) (λ x ys. mapped {B = Parts (or_told g k h)} inr (pair_with x (led (first h) (map can (first g)) (read_in rec h []) x ys)))
-        (λ x ys e v. behind x ys e v (at_one_of (first h) ys) (stops_in h [] ys oks.1)) xs))
+        (λ x ys e v. after x ys e v (at_one_of (first h) ys) (stops_in h [] ys oks.1)) xs))
       where
         E : List Item → Parts (or_told g k h) → Type 0
         E = DerivesIn Derives (or_told g k h)
@@ -270,6 +270,6 @@ module _ (sample : (s : Sym) → Sample (Derives s)) (item : (k : Token) → (x 
         twice x (Ok y) = refl
         twice x (Err s) = refl
 
-        behind : (x : Item) (ys : List Item) → is_token k x.token ≡ true → valid k x.text ≡ true → (b : Bool) → Stops (DerivesIn Derives h) [] ys (read_in rec h [] ys) → Stops E tried (x ∷ ys) (mapped {B = Parts (or_told g k h)} inr (pair_with x (cond b (read_in rec h [] ys) (Err (record { left = ys; expected = map can (first g); why = told x })))))
-        behind x ys e v true d = subst (λ (m : Result (Parts (or_told g k h) × List Item) Stop). Stops E tried (x ∷ ys) m) (twice x (read_in rec h [] ys)) (stops_after (DerivesIn Derives h) E (λ b. inr (x, b)) tried (x ∷ []) (put x e v) (x ∷ ys) ys refl (read_in rec h [] ys) d)
-        behind x ys e v false d = ([], refl, (let b = some_of h in let c = put x e v b.0 b.1 b.2 in (b.0, c.0, c.1)), λ m l n. inr (let o = cans_once m l (first g) n in early E m l o.0 (g_firsts l o.1) ys))
+        after : (x : Item) (ys : List Item) → is_token k x.token ≡ true → valid k x.text ≡ true → (b : Bool) → Stops (DerivesIn Derives h) [] ys (read_in rec h [] ys) → Stops E tried (x ∷ ys) (mapped {B = Parts (or_told g k h)} inr (pair_with x (cond b (read_in rec h [] ys) (Err (record { left = ys; expected = map can (first g); why = told x })))))
+        after x ys e v true d = subst (λ (m : Result (Parts (or_told g k h) × List Item) Stop). Stops E tried (x ∷ ys) m) (twice x (read_in rec h [] ys)) (stops_after (DerivesIn Derives h) E (λ b. inr (x, b)) tried (x ∷ []) (put x e v) (x ∷ ys) ys refl (read_in rec h [] ys) d)
+        after x ys e v false d = ([], refl, (let b = some_of h in let c = put x e v b.0 b.1 b.2 in (b.0, c.0, c.1)), λ m l n. inr (let o = cans_once m l (first g) n in early E m l o.0 (g_firsts l o.1) ys))

@@ -178,13 +178,13 @@ traced_end : {A : Type 0} (st mid end : State) (xs : List Item) (m : Result (A �
 traced_end st mid end xs m e h = subst (λ (u : State). Traced st u xs m) e h
 
 -- after items that were read
-traced_behind : {A B : Type 0} (st mid end : State) (xs front rest : List Item) (m : Result (A × List Item) Stop) (f : A → B) → xs ≡ front ++ rest → run st front ≡ mid → Traced mid end rest m → Traced st end xs (mapped f m)
-traced_behind st mid end xs front rest (Ok y) f e r d = (front ++ d.0, e ∙ ap (λ (ys : List Item). front ++ ys) d.1 ∙ back (append_assoc front d.0 y.1), run_append st front d.0 ∙ ap (λ (u : State). run u d.0) r ∙ d.2)
-traced_behind st mid end xs front rest (Err s) f e r d = (front ++ d.0, e ∙ ap (λ (ys : List Item). front ++ ys) d.1 ∙ back (append_assoc front d.0 s.left), d.2 ∙ ap is_argued (back (run_append st front d.0 ∙ ap (λ (u : State). run u d.0) r)))
+traced_after : {A B : Type 0} (st mid end : State) (xs front rest : List Item) (m : Result (A × List Item) Stop) (f : A → B) → xs ≡ front ++ rest → run st front ≡ mid → Traced mid end rest m → Traced st end xs (mapped f m)
+traced_after st mid end xs front rest (Ok y) f e r d = (front ++ d.0, e ∙ ap (λ (ys : List Item). front ++ ys) d.1 ∙ back (append_assoc front d.0 y.1), run_append st front d.0 ∙ ap (λ (u : State). run u d.0) r ∙ d.2)
+traced_after st mid end xs front rest (Err s) f e r d = (front ++ d.0, e ∙ ap (λ (ys : List Item). front ++ ys) d.1 ∙ back (append_assoc front d.0 s.left), d.2 ∙ ap is_argued (back (run_append st front d.0 ∙ ap (λ (u : State). run u d.0) r)))
 
 traced_two : {A B : Type 0} (st mid end : State) (xs : List Item) (m : Result (A × List Item) Stop) (f : A → List Item → Result (B × List Item) Stop) → Traced st mid xs m → ((a : A) (ys : List Item) → Traced mid end ys (f a ys)) → Traced st end xs (two m f)
 traced_two st mid end xs (Err s) f h k = h
-traced_two st mid end xs (Ok x) f h k = traced_behind st mid end xs h.0 x.1 (f x.0 x.1) (λ b. (x.0, b)) h.1 h.2 (k x.0 x.1)
+traced_two st mid end xs (Ok x) f h k = traced_after st mid end xs h.0 x.1 (f x.0 x.1) (λ b. (x.0, b)) h.1 h.2 (k x.0 x.1)
 
 -- any other rejection, where the last item is no string of an argument
 calm : (A : Type 0) (st end : State) (xs : List Item) (ts : List Tried) (w : Why) → not_argued st ≡ true → is_told w ≡ false → Traced {A = A} st end xs (Err (record { left = xs; expected = ts; why = w }))
@@ -210,15 +210,15 @@ rests st end xs m o h = traced_end st end plain xs m (plain_is end o) h
 colon_valid : (c : Token) (text : List ℕ) → same_token t.Colon c ≡ true → valid c text ≡ true
 colon_valid c text h = subst (λ (k : Token). valid k text ≡ true) (same_is t.Colon c h) refl
 
-behind_string : {B : Type 0} (c : Token) (ts : List Tried) (x : Item) (ys : List Item) (f : Item → List Item → Result (B × List Item) Stop) → same_token t.Colon c ≡ true → ((y : Item) (zs : List Item) → Traced plain plain zs (f y zs)) → Traced argued plain ys (led (c ∷ []) ts (λ zs. two (read_token [] c zs) f) x ys)
-behind_string c ts x [] f e h = ([], refl, refl)
-behind_string {B = B} c ts x (y ∷ ys) f e h = go (is_token c y.token) refl
+after_string : {B : Type 0} (c : Token) (ts : List Tried) (x : Item) (ys : List Item) (f : Item → List Item → Result (B × List Item) Stop) → same_token t.Colon c ≡ true → ((y : Item) (zs : List Item) → Traced plain plain zs (f y zs)) → Traced argued plain ys (led (c ∷ []) ts (λ zs. two (read_token [] c zs) f) x ys)
+after_string c ts x [] f e h = ([], refl, refl)
+after_string {B = B} c ts x (y ∷ ys) f e h = go (is_token c y.token) refl
   where
-    behind : is_token c y.token ≡ true → Traced argued plain (y ∷ ys) (pair_with y (f y ys))
-    behind i = traced_behind argued plain plain (y ∷ ys) (y ∷ []) ys (f y ys) (λ b. (y, b)) refl (step_token argued c y i ∙ back (ap (step argued) (same_is t.Colon c e))) (h y ys)
+    after_token : is_token c y.token ≡ true → Traced argued plain (y ∷ ys) (pair_with y (f y ys))
+    after_token i = traced_after argued plain plain (y ∷ ys) (y ∷ []) ys (f y ys) (λ b. (y, b)) refl (step_token argued c y i ∙ back (ap (step argued) (same_is t.Colon c e))) (h y ys)
 
     go : (b : Bool) → is_token c y.token ≡ b → Traced {A = Item × B} argued plain (y ∷ ys) (cond (cond b true false) (two (cond b (cond (valid c y.text) (Ok (y, ys)) (Err (record { left = y ∷ ys; expected = can c ∷ []; why = version }))) (refuse (y ∷ ys) (can c ∷ []))) f) (Err (record { left = y ∷ ys; expected = ts; why = told x })))
-    go true i = rw (colon_valid c y.text e) (behind i)
+    go true i = rw (colon_valid c y.text e) (after_token i)
     go false i = ([], refl, refl)
 
 module _ (rec : Reader) (traces : (s : Sym) (st : State) (xs : List Item) → may_begin st s ≡ true → Traced st plain xs (rec s xs)) where
@@ -264,7 +264,7 @@ module _ (rec : Reader) (traces : (s : Sym) (st : State) (xs : List Item) → ma
       (traced_map st plain xs _ inr
       (traced_two st argued plain xs (read_token (tried ++ map can (first g)) k xs) (led (c ∷ []) (map can (first g)) (read_in rec (then (token c) h) []))
       (traced_end st (step st k) argued xs (read_token (tried ++ map can (first g)) k xs) (ap (λ (u : State). step u k) o ∙ back (ap (step opened) (same_is t.String k (both_left (same_token t.String k) (same_token t.Colon c) ok_k)))) (token_traced st (tried ++ map can (first g)) k xs (ap not_argued o)))
-      (λ x ys. behind_string c (map can (first g)) x ys (λ a. read_in rec h []) (both_right (same_token t.String k) (same_token t.Colon c) ok_k)
+      (λ x ys. after_string c (map can (first g)) x ys (λ a. read_in rec h []) (both_right (same_token t.String k) (same_token t.Colon c) ok_k)
       (λ y zs. rests plain (after plain h) zs (read_in rec h [] zs) (both_right (well plain h) (is_plain (after plain h)) ok_h) (traced_in h plain [] zs (both_left (well plain h) (is_plain (after plain h)) ok_h))))))
   traced_in (or_told g k h) st tried xs ok = absurd cc
 

@@ -3,7 +3,7 @@ use Rattle.std.proofs.Common.{◌≡◌, List, [], ◌∷◌, ◌++◌, Result, 
 use Rattle.wac_ast_grammar.proofs.Common.{eqb-true, Error, Token, Item}
 use Rattle.wac_lexer.specs.declared.token.Token.TheVariants as t
 use Rattle.wac_ast_grammar.specs.Tokens.{is_token}
-use Rattle.wac_ast_grammar.specs.Grammar.{Sym, document, statements, import_type, export_options, expr, argument, named_argument, postfixes, variant_case, field, type_alias_kind, func_type_ref, func_type, result_list, named_type, ty, result_type, stream_type, future_type, result_part, payload, use_item, world_item_path, named_world_item, extern_type, rule, Behind, anything, no_fault, one_among, Grammar, token, sym, then, either, nothing, to_end, docs, not_empty, more, or_told, list_items, more_items, arguments}
+use Rattle.wac_ast_grammar.specs.Grammar.{Sym, document, statements, import_type, export_options, expr, argument, named_argument, postfixes, variant_case, field, type_alias_kind, func_type_ref, func_type, result_list, named_type, ty, result_type, stream_type, future_type, result_part, payload, use_item, world_item_path, named_world_item, extern_type, rule, After, anything, no_fault, one_among, Grammar, token, sym, then, either, nothing, to_end, docs, not_empty, more, or_told, list_items, more_items, arguments}
 use Rattle.wac_ast_grammar.specs.Reading.{empty, is_empty, begins, first, at_one_of}
 use Rattle.wac_ast_grammar.proofs.Fixed.{both, both_left, both_right}
 
@@ -140,22 +140,22 @@ abbrev pub needs_more : Sym → Bool
 needs_more argument = true
 needs_more _ = false
 
-abbrev pub clash_behind : Behind → List Token
-clash_behind anything = []
-clash_behind no_fault = []
-clash_behind (one_among ks) = others ks
+abbrev pub clash_after : After → List Token
+clash_after anything = []
+clash_after no_fault = []
+clash_after (one_among ks) = others ks
 
-abbrev pub needs_behind : Behind → Bool
-needs_behind anything = false
-needs_behind no_fault = false
-needs_behind (one_among ks) = true
+abbrev pub needs_after : After → Bool
+needs_after anything = false
+needs_after no_fault = false
+needs_after (one_among ks) = true
 
 abbrev pub clash : Grammar → List Token
 clash (token k) = []
 clash (sym s) = clashes s
 clash (then g h) = clash h ++ cond (is_empty h) (clash g) []
 clash (either loud g h) = (clash g ++ clash h) ++ cond (is_empty h) (first g) []
-clash (nothing b) = clash_behind b
+clash (nothing b) = clash_after b
 clash (to_end g) = all_tokens
 clash (docs g) = clash g
 clash (not_empty e k g) = clash g
@@ -168,7 +168,7 @@ needs (token k) = false
 needs (sym s) = needs_more s
 needs (then g h) = cond (needs h) true (both (is_empty h) (needs g))
 needs (either loud g h) = cond (needs g) true (needs h)
-needs (nothing b) = needs_behind b
+needs (nothing b) = needs_after b
 needs (to_end g) = needs g
 needs (docs g) = needs g
 needs (not_empty e k g) = needs g

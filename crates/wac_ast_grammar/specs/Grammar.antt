@@ -98,7 +98,7 @@ pub data Sym : Type 0 where
   string : Sym
   package_name : Sym
   package_path : Sym
-  -- of a list, up to the token that closes it: from the place of an item on, and from behind an item on
+  -- of a list, up to the token that closes it: from the place of an item on, and from after an item on
   list_items : CommaList → Sym
   more_items : CommaList → Sym
 
@@ -127,11 +127,11 @@ pub data Body : Type 0 where
   enum_body : Body
 
 -- What must follow a part that is left out.
-pub data Behind : Type 0 where
-  anything : Behind
+pub data After : Type 0 where
+  anything : After
   -- no fault
-  no_fault : Behind
-  one_among : List Token → Behind
+  no_fault : After
+  one_among : List Token → After
 
 pub data Grammar : Type 0 where
   token : Token → Grammar
@@ -139,7 +139,7 @@ pub data Grammar : Type 0 where
   then : Grammar → Grammar → Grammar
   -- the first, tried aloud (true) or silently, or the second
   either : Bool → Grammar → Grammar → Grammar
-  nothing : Behind → Grammar
+  nothing : After → Grammar
   -- up to the end of the list
   to_end : Grammar → Grammar
   -- with the docs of the first item

@@ -3,12 +3,12 @@ use Rattle.std.specs.Prelude.{◌≡◌, List, [], ◌∷◌, Ok, Bool, true, fa
 use Rattle.wac_lexer.specs.declared.token.Token.{Token}
 use Rattle.wac_lexer.specs.Item.{Item}
 use Rattle.wac_ast_grammar.specs.Tokens.{is_token, valid}
-use Rattle.wac_ast_grammar.specs.Reading.{Standing, at_once, closing, behind_comma, Tried}
+use Rattle.wac_ast_grammar.specs.Reading.{Standing, at_once, closing, after_comma, Tried}
 
 abbrev pub same_standing : Standing → Standing → Bool
 same_standing at_once at_once = true
 same_standing closing closing = true
-same_standing behind_comma behind_comma = true
+same_standing after_comma after_comma = true
 same_standing _ _ = false
 
 -- The token was looked for, and can occur in this way.

@@ -4,7 +4,7 @@ use Rattle.std.proofs.Common.{inl, inr}
 use Rattle.wac_lexer.specs.declared.token.Token.{Token}
 use Rattle.wac_lexer.specs.Item.{Item}
 use Rattle.wac_ast_grammar.specs.Tokens.{is_token, is_fault, valid, at}
-use Rattle.wac_ast_grammar.specs.Grammar.{Sym, Body, Behind, anything, no_fault, one_among, Grammar, token, sym, then, either, nothing, to_end, docs, not_empty, more, or_told, rule, TreeOf, Parts, build, docs_of}
+use Rattle.wac_ast_grammar.specs.Grammar.{Sym, Body, After, anything, no_fault, one_among, Grammar, token, sym, then, either, nothing, to_end, docs, not_empty, more, or_told, rule, TreeOf, Parts, build, docs_of}
 
 -- How a token that was looked for can occur at the place of a rejection.
 pub data Standing : Type 0 where
@@ -12,7 +12,7 @@ pub data Standing : Type 0 where
   -- it would close a body that is still empty
   closing : Standing
   -- where the input ends after an item of a comma list: after a comma
-  behind_comma : Standing
+  after_comma : Standing
 
 -- A token that was looked for.
 pub record Tried : Type 0 where
@@ -26,7 +26,7 @@ abbrev pub closes : Token → Tried
 closes k = record { token = k; standing = closing }
 
 abbrev pub follows : Token → Tried
-follows k = record { token = k; standing = behind_comma }
+follows k = record { token = k; standing = after_comma }
 
 pub data Why : Type 0 where
   -- another token, a fault or the end
@@ -131,7 +131,7 @@ abbrev pub not_fault : List Item → Bool
 not_fault [] = true
 not_fault (x ∷ xs) = cond (is_fault x) false true
 
-abbrev pub may_leave : Behind → List Item → Bool
+abbrev pub may_leave : After → List Item → Bool
 may_leave anything xs = true
 may_leave no_fault xs = not_fault xs
 may_leave (one_among ks) xs = at_one_of ks xs

@@ -4,7 +4,7 @@ use Rattle.wac_lexer.specs.declared.token.Token.{Token}
 use Rattle.wac_lexer.specs.declared.token.Token.TheVariants as t
 use Rattle.wac_lexer.specs.Item.{Item}
 use Rattle.wac_ast_grammar.specs.Grammar.{Sym, argument, TreeOf, Derives}
-use Rattle.wac_ast_grammar.specs.Reading.{Standing, at_once, closing, behind_comma, Stop, before, read}
+use Rattle.wac_ast_grammar.specs.Reading.{Standing, at_once, closing, after_comma, Stop, before, read}
 use Rattle.wac_ast_grammar.specs.Viable.{Viable, Similar}
 use Rattle.wac_ast_grammar.specs.Arguments.{CutShort}
 use Rattle.wac_ast_grammar.specs.Possible.{named, IsOf}
@@ -31,7 +31,7 @@ EndsInList s lead left = (left ≡ []) × (close : Token) × CanStand s lead clo
 abbrev pub Stands : Sym → List Item → List Item → Token → Standing → Type 0
 Stands s lead left k at_once = CanStand s lead k
 Stands s lead left k closing = Unit {0}
-Stands s lead left k behind_comma = EndsInList s lead left × CanFollowComma s lead k
+Stands s lead left k after_comma = EndsInList s lead left × CanFollowComma s lead k
 
 -- The items before the stop are viable, and with the next they are not. Each token that was looked for can occur there,
 -- with any right text, or where the rejection is reported at the item before, in that item's place.

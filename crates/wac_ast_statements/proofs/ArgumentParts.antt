@@ -1,6 +1,6 @@
 -- How an argument is read, by what comes next.
 use Rattle.std.proofs.Common.{◌≡◌, List, [], ◌∷◌, Bool, true, false, cond, map, Some, Result, Ok, Err, refl, sym as back, ap, subst, ◌∙◌, ◌⊎◌, inl, inr}
-use Rattle.wac_ast_statements.proofs.Common.{◌||◌, Item, behind_first, Ident, Expr, InstantiationArgument, InstantiationArgumentName, NamedInstantiationArgument, Parts, build, rule, argument, named_argument, argument_name, identifier, string, expr, string_of, Reading, left, looked, tried, told_of, alternatives_fail, begins, Stop, other, can, told, refuse, mapped, pair_with, read, read_token, at_one_of, read_is, fails_bind}
+use Rattle.wac_ast_statements.proofs.Common.{◌||◌, Item, after_first_item, Ident, Expr, InstantiationArgument, InstantiationArgumentName, NamedInstantiationArgument, Parts, build, rule, argument, named_argument, argument_name, identifier, string, expr, string_of, Reading, left, looked, tried, told_of, alternatives_fail, begins, Stop, other, can, told, refuse, mapped, pair_with, read, read_token, at_one_of, read_is, fails_bind}
 use Rattle.wac_lexer.specs.declared.token.Token.{Token}
 use Rattle.wac_lexer.specs.declared.token.Token.TheVariants as t
 use Rattle.wac_ast_base.specs.declared.error.Error.{Error}
@@ -105,7 +105,7 @@ abbrev of_string : Item → Item → ReadOf Expr → ReadOf (Parts (rule argumen
 of_string x y m = mapped {B = Parts (rule argument)} inr (mapped {A = Item × (Item × Expr)} {B = (Ident × ((Item × Expr) ⊎ Unit {0})) ⊎ (Item × (Item × Expr))} inr (pair_with x (pair_with y m)))
 
 -- a name before a colon
-pub argument_is_named : (xs : List Item) → at t.Ellipsis xs ≡ false → at_one_of (t.Ident ∷ t.String ∷ []) xs ≡ true → at t.Colon (behind_first xs) ≡ true → read argument xs ≡ mapped named (read named_argument xs)
+pub argument_is_named : (xs : List Item) → at t.Ellipsis xs ≡ false → at_one_of (t.Ident ∷ t.String ∷ []) xs ≡ true → at t.Colon (after_first_item xs) ≡ true → read argument xs ≡ mapped named (read named_argument xs)
 argument_is_named [] h n k = absurd cc
 argument_is_named (x ∷ []) h n k = absurd cc
 argument_is_named (x ∷ y ∷ xs) h n k = split (is_token t.Ident x.token) refl (is_token t.String x.token) refl n
@@ -148,7 +148,7 @@ unfolding told_stop
 same_told end x xs = refl
 
 -- what is read as an identifier is an argument
-pub argument_inferred_ok : (xs : List Item) (i : Ident) (ys : List Item) → at t.Ellipsis xs ≡ false → at_one_of (t.Ident ∷ t.String ∷ []) xs ≡ true → at t.Colon (behind_first xs) ≡ false → read identifier xs ≡ Ok (i, ys) → read argument xs ≡ Ok (InstantiationArgument.inferred i, ys)
+pub argument_inferred_ok : (xs : List Item) (i : Ident) (ys : List Item) → at t.Ellipsis xs ≡ false → at_one_of (t.Ident ∷ t.String ∷ []) xs ≡ true → at t.Colon (after_first_item xs) ≡ false → read identifier xs ≡ Ok (i, ys) → read argument xs ≡ Ok (InstantiationArgument.inferred i, ys)
 argument_inferred_ok [] i ys h n k r = absurd cc
 argument_inferred_ok (x ∷ xs) i ys h n k r = split (is_token t.Ident x.token) refl
   where
@@ -168,7 +168,7 @@ moved_fails {A = A} {B = B} e end s u m r is ir same f = subst (λ (z : Result B
     go (inr tells) = inr (ap Some (back same) ∙ tells)
 
 -- what is rejected as an identifier is rejected as an argument
-pub argument_inferred_fails : (e : Error) (end : End) (xs : List Item) → at t.Ellipsis xs ≡ false → at_one_of (t.Ident ∷ t.String ∷ []) xs ≡ true → at t.Colon (behind_first xs) ≡ false → Fails e end (read identifier xs) → Fails e end (read argument xs)
+pub argument_inferred_fails : (e : Error) (end : End) (xs : List Item) → at t.Ellipsis xs ≡ false → at_one_of (t.Ident ∷ t.String ∷ []) xs ≡ true → at t.Colon (after_first_item xs) ≡ false → Fails e end (read identifier xs) → Fails e end (read argument xs)
 argument_inferred_fails e end [] h n k f = absurd cc
 argument_inferred_fails e end (x ∷ xs) h n k f = split (is_token t.Ident x.token) refl (is_token t.String x.token) refl n
   where

@@ -11,6 +11,6 @@ pub use Rattle.wac_ast_grammar.proofs.Fixed.{read_is, takes_some}
 pub use Rattle.wac_ast_grammar.specs.Grammar.{Parts, access_expr, argument, argument_name, arguments, build, expr, identifier, last_span, list_items, named_access_expr, named_argument, nested_expr, new_expr, package_name, postfix_expr, postfix_span, postfixes, primary_expr, primary_span, rule, string, string_of}
 pub use Rattle.wac_ast_grammar.specs.Reading.{Stop, at_one_of, begins, can, mapped, other, pair_with, read, read_token, refuse, told}
 pub use Rattle.wac_ast_grammar.specs.Tree.{Arguments, Expr, Ident, InstantiationArgument, InstantiationArgumentName, NamedInstantiationArgument, PostfixExpr, PrimaryExpr, arguments_from}
-pub use Rattle.wac_lexer.specs.Item.{Item, behind_first}
+pub use Rattle.wac_lexer.specs.Item.{Item, after_first_item}
 pub use Rattle.wac_lexer.specs.Reading.{Reading, left}
 pub use Rattle.wac_lexer.specs.Span.{Span, end_of}

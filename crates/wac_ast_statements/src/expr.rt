@@ -2,7 +2,7 @@
 
 ghost use Rattle.std.specs.Prelude.{◌≡◌, ◌<◌, ◌≤◌, ◌^◌, ◌||◌, map, true, false, IfOk, OnOk};
 ghost use Rattle.wac_lexer.specs.Span.{end_of};
-ghost use Rattle.wac_lexer.specs.Item.{behind_first};
+ghost use Rattle.wac_lexer.specs.Item.{after_first_item};
 ghost use Rattle.wac_lexer.specs.Reading.{left};
 ghost use Rattle.wac_lexer.specs.declared.token.Token.TheVariants as tokens;
 ghost use Rattle.wac_ast_grammar.specs.Tokens.{at};
@@ -471,7 +471,7 @@ fn parse_inferred<'a>(
 ) -> ParseResult<InstantiationArgument<'a>>
     requires no_dots { at tokens.Ellipsis (left lexer.old) ≡ false }
     requires name { at_one_of (begins symbols.argument_name) (left lexer.old) ≡ true }
-    requires alone { at tokens.Colon (behind_first (left lexer.old)) ≡ false }
+    requires alone { at tokens.Colon (after_first_item (left lexer.old)) ≡ false }
     ensures gives { Gives argument_of result lexer.old lexer.new (read symbols.argument (left lexer.old)) }
     ensures source { lexer.new.source ≡ lexer.old.source }
     ensures moves { lexer.old.place ≤ lexer.new.place }

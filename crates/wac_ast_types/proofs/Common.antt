@@ -15,7 +15,7 @@ pub use Rattle.wac_ast_grammar.specs.Grammar.{Grammar, Listed, Parts, Sym, TreeO
 pub use Rattle.wac_ast_grammar.specs.Reading.{Stop, at_one_of, begins, built, can, mapped, pair_with, read, read_in, read_token, refuse, two}
 pub use Rattle.wac_ast_grammar.specs.Tokens.{at, is_token}
 pub use Rattle.wac_ast_grammar.specs.Tree.{Ident, NamedType, OptionalTy, ResultList, Ty, Types, join, types_from}
-pub use Rattle.wac_lexer.specs.Item.{Doc, Item, behind_first, handed}
+pub use Rattle.wac_lexer.specs.Item.{Doc, Item, after_first_item, next_token}
 pub use Rattle.wac_lexer.specs.Reading.{Reading, left}
 pub use Rattle.wac_lexer.specs.Span.{Span}
 pub use Rattle.wac_lexer.specs.declared.token.Token.{Token}

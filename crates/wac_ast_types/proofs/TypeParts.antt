@@ -4,7 +4,7 @@ use Rattle.std.specs.Prelude.{Vec, Box}
 use mathlib.Core.Former.{Count}
 use denote.Enum.Bare.{same_true}
 use Rattle.wac_lexer.specs.contracts.token.Token.{the_type}
-use Rattle.wac_ast_types.proofs.Common.{Token, Span, Item, handed, behind_first, Reading, left, is_token, at, Ident, Ty, Types, OptionalTy, types_from, join, Listed, can, refuse, mapped, two, read, read_in, read_token, built, at_one_of, begins, End, end_of_input, Fails, first_item, has_more, Error, read_is, fails_bind, same, same_fails, moved_end, list_open, comma_list, closed_by, closed_fails}
+use Rattle.wac_ast_types.proofs.Common.{Token, Span, Item, next_token, after_first_item, Reading, left, is_token, at, Ident, Ty, Types, OptionalTy, types_from, join, Listed, can, refuse, mapped, two, read, read_in, read_token, built, at_one_of, begins, End, end_of_input, Fails, first_item, has_more, Error, read_is, fails_bind, same, same_fails, moved_end, list_open, comma_list, closed_by, closed_fails}
 use Rattle.wac_lexer.specs.declared.token.Token.TheVariants as k
 use Rattle.wac_lexer.specs.declared.error.Error.{Error as LexError}
 use Rattle.wac_ast_grammar.specs.Grammar as g
@@ -175,7 +175,7 @@ tuple_reads xs a ys b zs h i begun =
 
 -- ---- a type of one token
 
-pub word_taken : (xs : List Item) (t : Ty) → word_at (handed xs) ≡ Some t → read g.ty xs ≡ Ok (t, behind_first xs)
+pub word_taken : (xs : List Item) (t : Ty) → word_at (next_token xs) ≡ Some t → read g.ty xs ≡ Ok (t, after_first_item xs)
 word_taken [] t h = absurd (not_some h)
 word_taken (x ∷ xs) t h = go x.token h
   where
@@ -212,7 +212,7 @@ name_next (x ∷ xs) h = with_its_token (λ y. read g.ty (y ∷ xs) ≡ mapped T
     go (Err s) = refl
 
 -- no type is next where none of its tokens is
-pub no_type_next : (xs : List Item) → at_one_of compound xs ≡ false → at k.Ident xs ≡ false → word_at (handed xs) ≡ None → at_one_of (begins g.ty) xs ≡ false
+pub no_type_next : (xs : List Item) → at_one_of compound xs ≡ false → at k.Ident xs ≡ false → word_at (next_token xs) ≡ None → at_one_of (begins g.ty) xs ≡ false
 no_type_next [] h i w = refl
 no_type_next (x ∷ xs) h i w = go x.token h i w
   where
@@ -259,7 +259,7 @@ result_is None (Some c) s = refl
 result_is (Some b) None s = refl
 result_is (Some b) (Some c) s = refl
 
-pub payload_of : (xs : List Item) → has_more xs ≡ true → with_payload xs ≡ mapped (held_from (first_item xs)) (read g.payload (behind_first xs))
+pub payload_of : (xs : List Item) → has_more xs ≡ true → with_payload xs ≡ mapped (held_from (first_item xs)) (read g.payload (after_first_item xs))
 payload_of [] h = absurd cc
 payload_of (x ∷ xs) h = refl
 
@@ -295,13 +295,13 @@ no_type_reads xs h =
 
 -- ---- what an item holds
 
-held_is : (xs ys : List Item) → has_more xs ≡ true → ys ≡ behind_first xs → with_payload xs ≡ mapped {B = OptionalTy × Span} (held_from (first_item xs)) (read g.payload ys)
+held_is : (xs ys : List Item) → has_more xs ≡ true → ys ≡ after_first_item xs → with_payload xs ≡ mapped {B = OptionalTy × Span} (held_from (first_item xs)) (read g.payload ys)
 held_is xs ys m is = payload_of xs m ∙ ap (λ (l : List Item). mapped {B = OptionalTy × Span} (held_from (first_item xs)) (read g.payload l)) (back is)
 
-pub held_fails : (e : Error) (old mid : Reading) → has_more (left old) ≡ true → left mid ≡ behind_first (left old) → end_of_input mid ≡ end_of_input old → Fails e (end_of_input mid) (read g.payload (left mid)) → Fails e (end_of_input old) (with_payload (left old))
+pub held_fails : (e : Error) (old mid : Reading) → has_more (left old) ≡ true → left mid ≡ after_first_item (left old) → end_of_input mid ≡ end_of_input old → Fails e (end_of_input mid) (read g.payload (left mid)) → Fails e (end_of_input old) (with_payload (left old))
 held_fails e old mid m is ends f = same_fails e (end_of_input old) (with_payload (left old)) _ (held_is (left old) (left mid) m is) (fails_bind e (end_of_input old) _ _ (moved_end e (end_of_input mid) (end_of_input old) (read g.payload (left mid)) ends f))
 
-pub held_gives : {p : Option (Ty × Item)} {held : OptionalTy × Span} (old mid new : Reading) → has_more (left old) ≡ true → left mid ≡ behind_first (left old) → end_of_input mid ≡ end_of_input old
+pub held_gives : {p : Option (Ty × Item)} {held : OptionalTy × Span} (old mid new : Reading) → has_more (left old) ≡ true → left mid ≡ after_first_item (left old) → end_of_input mid ≡ end_of_input old
     → (read g.payload (left mid) ≡ Ok (p, left new)) × (end_of_input new ≡ end_of_input mid) → held_from (first_item (left old)) p ≡ held → (with_payload (left old) ≡ Ok (held, left new)) × (end_of_input new ≡ end_of_input old)
 held_gives old mid new m is ends r same =
     (held_is (left old) (left mid) m is ∙ ap (mapped {B = OptionalTy × Span} (held_from (first_item (left old)))) r.0 ∙ ap (λ (h : OptionalTy × Span). Ok (h, left new)) same, r.1 ∙ ends)

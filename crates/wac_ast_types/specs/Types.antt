@@ -2,7 +2,7 @@
 use Rattle.std.specs.Prelude.{◌≡◌, List, [], ◌∷◌, Option, Some, None, Ok, Box}
 use Rattle.std.proofs.Common.{Global, inl, inr}
 use Rattle.wac_lexer.specs.Span.{Span}
-use Rattle.wac_lexer.specs.Item.{Item, Handed, behind_first}
+use Rattle.wac_lexer.specs.Item.{Item, NextToken, after_first_item}
 use Rattle.wac_ast_base.specs.Answer.{first_item}
 use Rattle.wac_ast_grammar.specs.Consumed.{Consumed}
 use Rattle.wac_lexer.specs.declared.token.Token.{Token}
@@ -77,7 +77,7 @@ word_type tokens.ErrorContextKeyword s = Some (Ty.error_context s)
 word_type _ s = None
 
 -- the type that the next item is alone
-abbrev pub word_at : Handed → Option Ty
+abbrev pub word_at : NextToken → Option Ty
 word_at (Some (Ok keyword, span)) = word_type keyword span
 word_at _ = None
 
@@ -112,7 +112,7 @@ second_of (inr p) = OptionalTy.absent
 
 -- The next item was taken, and what derives perhaps a type in angle brackets: this type is held, and the span is that of all.
 abbrev pub TakesPayload : List Item → List Item → OptionalTy → Span → Type 0
-TakesPayload old new held s = (p : Option (Ty × Item)) × Consumed payload (behind_first old) new p × ◌≡◌ {A = OptionalTy × Span} (held, s) (held_from (first_item old) p)
+TakesPayload old new held s = (p : Option (Ty × Item)) × Consumed payload (after_first_item old) new p × ◌≡◌ {A = OptionalTy × Span} (held, s) (held_from (first_item old) p)
 
 -- a type that a constructor made of what was taken
 abbrev pub MadeOf : (Option (Box code.Type Global) → Span → code.Type → Type 0) → code.Type → List Item → List Item → Type 0

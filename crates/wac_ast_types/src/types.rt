@@ -2,7 +2,7 @@
 
 ghost use Rattle.std.specs.Prelude.{◌≡◌, ◌<◌, ◌≤◌, ◌∷◌, true, false, IfOk, IfErr, OnOk};
 ghost use Rattle.std.specs.Option.{option_map};
-ghost use Rattle.wac_lexer.specs.Item.{handed, behind_first};
+ghost use Rattle.wac_lexer.specs.Item.{next_token, after_first_item};
 ghost use Rattle.wac_lexer.specs.Reading.{left};
 ghost use Rattle.wac_lexer.specs.declared.token.Token.TheVariants as tokens;
 ghost use Rattle.wac_ast_grammar.specs.Grammar as symbols;
@@ -247,7 +247,7 @@ fn parse_simple<'a>(alloc: Global, lexer: &mut Lexer<'a>) -> ParseResult<Type<'a
 
 /// The type that the next item is alone.
 fn next_word<'a>(lexer: &Lexer) -> Option<Type<'a>>
-    ensures { option_map ty_of result ≡ word_at (handed (left lexer.now)) }
+    ensures { option_map ty_of result ≡ word_at (next_token (left lexer.now)) }
 {
     match lexer.peek() {
         Some((Ok(token), span)) => type_of_word(token, span),
@@ -283,7 +283,7 @@ fn type_of_word<'a>(token: Token, span: SourceSpan) -> Option<Type<'a>>
 fn take_item(lexer: &mut Lexer) -> SourceSpan
     requires { has_more (left lexer.now) ≡ true }
     ensures span { result ≡ (first_item (left lexer.old)).span }
-    ensures rest { left lexer.new ≡ behind_first (left lexer.old) }
+    ensures rest { left lexer.new ≡ after_first_item (left lexer.old) }
     ensures end { end_of_input lexer.new ≡ end_of_input lexer.old }
     ensures source { lexer.new.source ≡ lexer.old.source }
     ensures moves { lexer.old.place ≤ lexer.new.place }

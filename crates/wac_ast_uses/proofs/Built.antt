@@ -2,11 +2,11 @@
 use Rattle.std.proofs.Common.{◌≡◌, List, refl, inl, inr, ◌⊎◌}
 use Rattle.wac_lexer.specs.Item.{Item, Doc}
 use Rattle.wac_ast_grammar.specs.Grammar.{TreeOf, Parts, build, use_item, world_include, identifier, world_ref}
-use Rattle.wac_ast_base.specs.Pieces.{behind_word}
+use Rattle.wac_ast_base.specs.Pieces.{after_word}
 use Rattle.wac_ast_uses.specs.Tails.{with_part, with_items}
 
 -- the tree of an item of a use, by the name that it is given
-pub use_item_built : (id : TreeOf identifier) (p : (Item × TreeOf identifier) ⊎ Unit {0}) → build use_item (id, p) ≡ record { id = id; as_id = behind_word p }
+pub use_item_built : (id : TreeOf identifier) (p : (Item × TreeOf identifier) ⊎ Unit {0}) → build use_item (id, p) ≡ record { id = id; as_id = after_word p }
 use_item_built id (inl p) = refl
 use_item_built id (inr u) = refl
 

@@ -5,5 +5,5 @@ pub use Rattle.wac_ast_base.specs.Lookahead.{Looked, Peeks}
 pub use Rattle.wac_ast_grammar.specs.Grammar.{TreeOf, build, extern_name, extern_type, identifier, import_statement, import_type, inline_interface, interface_decl, interface_export, interface_item, named_world_item, world_decl, world_export, world_import, world_item, world_item_path}
 pub use Rattle.wac_ast_grammar.specs.Reading.{at_one_of, begins, mapped, read}
 pub use Rattle.wac_ast_grammar.specs.Tree.{Ident, NamedWorldItem, WorldItemPath}
-pub use Rattle.wac_lexer.specs.Item.{Doc, Item, behind_first}
+pub use Rattle.wac_lexer.specs.Item.{Doc, Item, after_first_item}
 pub use Rattle.wac_lexer.specs.Reading.{Reading, left}

@@ -22,7 +22,7 @@ pub struct Composition<'t> {
     /// The bytes of the document.
     pub text: &'t [u8],
     /// Frames, each a length of eight bytes, lowest first, and so many bytes: documents that declare packages, and
-    /// components, each behind a frame with the name of its package, as `a:b@1.0.0`. Packages are in any order.
+    /// components, each after a frame with the name of its package, as `a:b@1.0.0`. Packages are in any order.
     pub packages: &'t [u8],
 }
 

@@ -29,7 +29,7 @@ impl Scan {
         Scan { place, before }
     }
 
-    /// The scan behind one byte more.
+    /// The scan after one byte more.
     fn after(self, byte: u8) -> Scan {
         match (self.place, self.before, byte) {
             (Place::Plain, b'/', b'/') => Scan::at(Place::Line, 0),
@@ -43,7 +43,7 @@ impl Scan {
     }
 }
 
-/// Where the text goes on behind the end of a block comment.
+/// Where the text goes on after the end of a block comment.
 fn outside(depth: usize) -> Place {
     if depth < 2 {
         Place::Plain

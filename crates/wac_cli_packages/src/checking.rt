@@ -2,7 +2,7 @@
 ghost use Rattle.std.specs.Prelude.{◌≡◌};
 
 use crate::graphs::text_of;
-use crate::options::{Given, Setting};
+use crate::options::{Context, Given};
 use crate::supply::{Supply, read_supply};
 use crate::verdicts::first_error_of;
 use std::alloc::{AllocError, Global};
@@ -45,7 +45,7 @@ fn check_all<F: FileSystem, O: Write + Drop, E: Write + Drop>(
     check_found_files(alloc, files, console, given, found.as_slice())
 }
 
-/// The outcomes of files that were found, behind those of the files of packages.
+/// The outcomes of files that were found, after those of the files of packages.
 fn check_found_files<F: FileSystem, O: Write + Drop, E: Write + Drop>(
     alloc: Global,
     files: &mut F,
@@ -56,7 +56,7 @@ fn check_found_files<F: FileSystem, O: Write + Drop, E: Write + Drop>(
     ensures { F.replaced files.new ≡ F.replaced files.old }
 {
     let supply = read_supply(alloc, files, console, given, found)?;
-    check_supplied(files, console, &supply, supply.setting(alloc, given), found)
+    check_supplied(files, console, &supply, supply.context(alloc, given), found)
 }
 
 /// The same with the packages.
@@ -64,28 +64,28 @@ fn check_supplied<F: FileSystem, O: Write + Drop, E: Write + Drop>(
     files: &mut F,
     console: &mut Console<O, E>,
     supply: &Supply,
-    setting: Setting<'_>,
+    context: Context<'_>,
     found: &[Found],
 ) -> Result<Vec<Outcome>, AllocError>
     ensures { F.replaced files.new ≡ F.replaced files.old }
 {
-    supply.report_all(console, setting)?;
-    let outcomes = supply.outcomes(setting.alloc)?;
-    check_each(files, console, setting, found, outcomes)
+    supply.report_all(console, context)?;
+    let outcomes = supply.outcomes(context.alloc)?;
+    check_each(files, console, context, found, outcomes)
 }
 
 /// Adds the outcome of each file that was found.
 fn check_each<F: FileSystem, O: Write + Drop, E: Write + Drop>(
     files: &mut F,
     console: &mut Console<O, E>,
-    setting: Setting<'_>,
+    context: Context<'_>,
     found: &[Found],
     mut outcomes: Vec<Outcome>,
 ) -> Result<Vec<Outcome>, AllocError>
     ensures { F.replaced files.new ≡ F.replaced files.old }
 {
     for one in found {
-        let outcome = check_found(files, console, setting, one);
+        let outcome = check_found(files, console, context, one);
         outcomes.push(outcome)?;
     }
     Ok(outcomes)
@@ -95,17 +95,17 @@ fn check_each<F: FileSystem, O: Write + Drop, E: Write + Drop>(
 fn check_found<F: FileSystem, O: Write + Drop, E: Write + Drop>(
     files: &mut F,
     console: &mut Console<O, E>,
-    setting: Setting<'_>,
+    context: Context<'_>,
     found: &Found,
 ) -> Outcome
     ensures { F.replaced files.new ≡ F.replaced files.old }
 {
     let path = found.path.as_str();
     match found.failure {
-        Some(error) => console.failed(setting.alloc, setting.report, path, error),
+        Some(error) => console.failed(context.alloc, context.report, path, error),
         None => {
-            let read = files.read(setting.alloc, path);
-            checked(console, setting, path, read)
+            let read = files.read(context.alloc, path);
+            checked(console, context, path, read)
         }
     }
 }
@@ -113,27 +113,27 @@ fn check_found<F: FileSystem, O: Write + Drop, E: Write + Drop>(
 /// Reports the first error of what was read. Returns what became of it.
 fn checked<O: Write + Drop, E: Write + Drop>(
     console: &mut Console<O, E>,
-    setting: Setting<'_>,
+    context: Context<'_>,
     path: &str,
     read: Result<Vec<u8>, FileError>,
 ) -> Outcome {
     match read {
-        Ok(bytes) => check_bytes(console, setting, path, bytes.as_slice()),
-        Err(error) => console.failed(setting.alloc, setting.report, path, error),
+        Ok(bytes) => check_bytes(console, context, path, bytes.as_slice()),
+        Err(error) => console.failed(context.alloc, context.report, path, error),
     }
 }
 
 /// Reports the first error of bytes. Returns what became of them.
 fn check_bytes<O: Write + Drop, E: Write + Drop>(
     console: &mut Console<O, E>,
-    setting: Setting<'_>,
+    context: Context<'_>,
     path: &str,
     bytes: &[u8],
 ) -> Outcome {
-    match judge(console, setting, path, bytes) {
+    match judge(console, context, path, bytes) {
         Ok(outcome) => outcome,
         Err(AllocError) => {
-            console.failed(setting.alloc, setting.report, path, FileError::OutOfMemory)
+            console.failed(context.alloc, context.report, path, FileError::OutOfMemory)
         }
     }
 }
@@ -141,14 +141,14 @@ fn check_bytes<O: Write + Drop, E: Write + Drop>(
 /// Reports the first error of bytes, or what of their document may not be meant.
 fn judge<O: Write + Drop, E: Write + Drop>(
     console: &mut Console<O, E>,
-    setting: Setting<'_>,
+    context: Context<'_>,
     path: &str,
     bytes: &[u8],
 ) -> Result<Outcome, AllocError> {
-    match first_error_of(setting, bytes) {
-        Ok(Composed::Resolved(graph)) => warn(console, setting, path, bytes, &graph),
+    match first_error_of(context, bytes) {
+        Ok(Composed::Resolved(graph)) => warn(console, context, path, bytes, &graph),
         Ok(Composed::Unresolved) => Ok(Outcome::Unresolved),
-        Ok(Composed::Rejected(diagnostic)) => reject(console, setting, path, bytes, &diagnostic),
+        Ok(Composed::Rejected(diagnostic)) => reject(console, context, path, bytes, &diagnostic),
         Err(_) => Err(AllocError),
     }
 }
@@ -156,40 +156,40 @@ fn judge<O: Write + Drop, E: Write + Drop>(
 /// Reports an error.
 fn reject<O: Write + Drop, E: Write + Drop>(
     console: &mut Console<O, E>,
-    setting: Setting<'_>,
+    context: Context<'_>,
     path: &str,
     bytes: &[u8],
     diagnostic: &Diagnostic,
 ) -> Result<Outcome, AllocError> {
     let file = SourceFile { path, text: bytes };
-    console.report(setting.alloc, setting.report, &file, diagnostic)?;
+    console.report(context.alloc, context.report, &file, diagnostic)?;
     Ok(Outcome::Rejected)
 }
 
 /// Reports what of a graph may not be meant.
 fn warn<O: Write + Drop, E: Write + Drop>(
     console: &mut Console<O, E>,
-    setting: Setting<'_>,
+    context: Context<'_>,
     path: &str,
     bytes: &[u8],
     graph: &CompositionGraph,
 ) -> Result<Outcome, AllocError> {
-    let found = warnings_of(setting.alloc, text_of(bytes), graph)?;
-    report_each(console, setting, path, bytes, found.as_slice())?;
+    let found = warnings_of(context.alloc, text_of(bytes), graph)?;
+    report_each(console, context, path, bytes, found.as_slice())?;
     Ok(Outcome::Good)
 }
 
 /// Reports what is said of a file.
 fn report_each<O: Write + Drop, E: Write + Drop>(
     console: &mut Console<O, E>,
-    setting: Setting<'_>,
+    context: Context<'_>,
     path: &str,
     bytes: &[u8],
     found: &[Diagnostic],
 ) -> Result<(), AllocError> {
     let file = SourceFile { path, text: bytes };
     for diagnostic in found {
-        console.report(setting.alloc, setting.report, &file, diagnostic)?;
+        console.report(context.alloc, context.report, &file, diagnostic)?;
     }
     Ok(())
 }

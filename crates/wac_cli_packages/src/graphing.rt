@@ -2,7 +2,7 @@
 ghost use Rattle.std.specs.Prelude.{◌≡◌};
 
 use crate::graphs::drawn_of;
-use crate::options::{Given, Setting};
+use crate::options::{Context, Given};
 use crate::requests::GraphRequest;
 use crate::supply::{Supply, supply_beside};
 use crate::verdicts::first_error_of;
@@ -45,7 +45,7 @@ fn show_all<F: FileSystem, O: Write + Drop, E: Write + Drop>(
     show_supplied(
         console,
         &supply,
-        supply.setting(alloc, given),
+        supply.context(alloc, given),
         request,
         read,
     )
@@ -55,13 +55,13 @@ fn show_all<F: FileSystem, O: Write + Drop, E: Write + Drop>(
 fn show_supplied<O: Write + Drop, E: Write + Drop>(
     console: &mut Console<O, E>,
     supply: &Supply,
-    setting: Setting<'_>,
+    context: Context<'_>,
     request: GraphRequest<'_>,
     read: Result<Vec<u8>, FileError>,
 ) -> Result<Status, AllocError> {
     match read {
-        Ok(bytes) => show_read(console, supply, setting, request, bytes.as_slice()),
-        Err(error) => supply.fail(console, setting, request.path, error),
+        Ok(bytes) => show_read(console, supply, context, request, bytes.as_slice()),
+        Err(error) => supply.fail(console, context, request.path, error),
     }
 }
 
@@ -69,31 +69,31 @@ fn show_supplied<O: Write + Drop, E: Write + Drop>(
 fn show_read<O: Write + Drop, E: Write + Drop>(
     console: &mut Console<O, E>,
     supply: &Supply,
-    setting: Setting<'_>,
+    context: Context<'_>,
     request: GraphRequest<'_>,
     bytes: &[u8],
 ) -> Result<Status, AllocError> {
-    let before = supply.report_all(console, setting)?;
-    let status = show_bytes(console, setting, request, bytes)?;
+    let before = supply.report_all(console, context)?;
+    let status = show_bytes(console, context, request, bytes)?;
     Ok(before.or(status))
 }
 
 /// Writes the graph of bytes, or reports their first error.
 fn show_bytes<O: Write + Drop, E: Write + Drop>(
     console: &mut Console<O, E>,
-    setting: Setting<'_>,
+    context: Context<'_>,
     request: GraphRequest<'_>,
     bytes: &[u8],
 ) -> Result<Status, AllocError> {
-    match first_error_of(setting, bytes) {
-        Ok(Composed::Resolved(graph)) => show_graph(console, setting, request, bytes, &graph),
+    match first_error_of(context, bytes) {
+        Ok(Composed::Resolved(graph)) => show_graph(console, context, request, bytes, &graph),
         Ok(Composed::Unresolved) => Ok(Status::Wrong),
         Ok(Composed::Rejected(diagnostic)) => {
             let file = SourceFile {
                 path: request.path,
                 text: bytes,
             };
-            console.report(setting.alloc, setting.report, &file, &diagnostic)?;
+            console.report(context.alloc, context.report, &file, &diagnostic)?;
             Ok(Outcome::Rejected.status(Action::Check))
         }
         Err(_) => Err(AllocError),
@@ -103,12 +103,12 @@ fn show_bytes<O: Write + Drop, E: Write + Drop>(
 /// Writes the graph of the document of bytes.
 fn show_graph<O: Write + Drop, E: Write + Drop>(
     console: &mut Console<O, E>,
-    setting: Setting<'_>,
+    context: Context<'_>,
     request: GraphRequest<'_>,
     bytes: &[u8],
     graph: &CompositionGraph,
 ) -> Result<Status, AllocError> {
-    let shown = drawn_of(setting.alloc, bytes, graph, request.form)?;
+    let shown = drawn_of(context.alloc, bytes, graph, request.form)?;
     console.write(shown.as_slice());
     Ok(Status::Well)
 }

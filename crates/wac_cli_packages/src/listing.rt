@@ -1,7 +1,7 @@
 // `wacx packages`.
 ghost use Rattle.std.specs.Prelude.{◌≡◌};
 
-use crate::options::{Given, Setting};
+use crate::options::{Context, Given};
 use crate::supply::{Supply, supply_beside};
 use indexmap::IndexMap;
 use std::alloc::{AllocError, Global};
@@ -54,20 +54,20 @@ fn list_all<F: FileSystem, O: Write + Drop, E: Write + Drop>(
 {
     let supply = supply_beside(alloc, files, console, given, path)?;
     let read = files.read(alloc, path);
-    list_supplied(console, &supply, supply.setting(alloc, given), path, read)
+    list_supplied(console, &supply, supply.context(alloc, given), path, read)
 }
 
 /// The same of what was read, with the packages.
 fn list_supplied<O: Write + Drop, E: Write + Drop>(
     console: &mut Console<O, E>,
     supply: &Supply,
-    setting: Setting<'_>,
+    context: Context<'_>,
     path: &str,
     read: Result<Vec<u8>, FileError>,
 ) -> Result<Status, AllocError> {
     match read {
-        Ok(bytes) => list_read(console, supply, setting, path, bytes.as_slice()),
-        Err(error) => supply.fail(console, setting, path, error),
+        Ok(bytes) => list_read(console, supply, context, path, bytes.as_slice()),
+        Err(error) => supply.fail(console, context, path, error),
     }
 }
 
@@ -75,23 +75,23 @@ fn list_supplied<O: Write + Drop, E: Write + Drop>(
 fn list_read<O: Write + Drop, E: Write + Drop>(
     console: &mut Console<O, E>,
     supply: &Supply,
-    setting: Setting<'_>,
+    context: Context<'_>,
     path: &str,
     bytes: &[u8],
 ) -> Result<Status, AllocError> {
-    let before = supply.report_all(console, setting)?;
-    let status = list_bytes(console, setting, path, bytes)?;
+    let before = supply.report_all(console, context)?;
+    let status = list_bytes(console, context, path, bytes)?;
     Ok(before.or(status))
 }
 
 /// Writes the lines of the document of bytes, or reports what is wrong with them.
 fn list_bytes<O: Write + Drop, E: Write + Drop>(
     console: &mut Console<O, E>,
-    setting: Setting<'_>,
+    context: Context<'_>,
     path: &str,
     bytes: &[u8],
 ) -> Result<Status, AllocError> {
-    match list_of(setting, bytes) {
+    match list_of(context, bytes) {
         Ok(Listed::Lines(lines, all_found)) => {
             console.write(lines.as_bytes());
             Ok(if all_found {
@@ -102,49 +102,49 @@ fn list_bytes<O: Write + Drop, E: Write + Drop>(
         }
         Ok(Listed::Rejected(diagnostic)) => {
             let file = SourceFile { path, text: bytes };
-            console.report(setting.alloc, setting.report, &file, &diagnostic)?;
+            console.report(context.alloc, context.report, &file, &diagnostic)?;
             Ok(Outcome::Rejected.status(Action::Check))
         }
         Err(_) => Err(AllocError),
     }
 }
 
-fn list_of(setting: Setting<'_>, bytes: &[u8]) -> Result<Listed, AllocError> {
-    match flat_text(setting.alloc, bytes) {
-        Ok(Reading::Text(text)) => listed_text(setting, text),
+fn list_of(context: Context<'_>, bytes: &[u8]) -> Result<Listed, AllocError> {
+    match flat_text(context.alloc, bytes) {
+        Ok(Reading::Text(text)) => listed_text(context, text),
         Ok(Reading::Rejected(diagnostic)) => Ok(Listed::Rejected(diagnostic)),
         Err(_) => Err(AllocError),
     }
 }
 
-fn listed_text(setting: Setting<'_>, text: &str) -> Result<Listed, AllocError> {
-    match Document::parse(setting.alloc, text) {
+fn listed_text(context: Context<'_>, text: &str) -> Result<Listed, AllocError> {
+    match Document::parse(context.alloc, text) {
         Ok(document) => listed_document(
             Page {
                 document: &document,
             },
-            setting,
+            context,
         ),
-        Err(error) => Ok(Listed::Rejected(syntax_diagnostic(setting.alloc, text, &error)?)),
+        Err(error) => Ok(Listed::Rejected(syntax_diagnostic(context.alloc, text, &error)?)),
     }
 }
 
 /// A line for each package that a document mentions.
-fn listed_document(page: Page<'_, '_>, setting: Setting<'_>) -> Result<Listed, AllocError> {
+fn listed_document(page: Page<'_, '_>, context: Context<'_>) -> Result<Listed, AllocError> {
     let Page { document } = page;
-    let mentioned = packages(setting.alloc, document)?;
-    lines_of(setting, &mentioned)
+    let mentioned = packages(context.alloc, document)?;
+    lines_of(context, &mentioned)
 }
 
 /// A line for each of these packages.
 fn lines_of(
-    setting: Setting<'_>,
+    context: Context<'_>,
     mentioned: &IndexMap<PackageKey, SourceSpan>,
 ) -> Result<Listed, AllocError> {
-    let mut lines = String::new(setting.alloc);
+    let mut lines = String::new(context.alloc);
     let mut all_found = true;
     for (key, _) in mentioned.iter() {
-        let found = push_line(&mut lines, setting.known, key)?;
+        let found = push_line(&mut lines, context.known, key)?;
         all_found = all_found && found;
     }
     Ok(Listed::Lines(lines, all_found))

@@ -21,7 +21,7 @@ pub struct Given<'g> {
 
 /// What is known when files are checked.
 #[derive(Clone, Copy)]
-pub(crate) struct Setting<'s> {
+pub(crate) struct Context<'s> {
     pub(crate) alloc: Global,
     pub(crate) report: Report,
     pub(crate) known: KnownPackages<'s>,

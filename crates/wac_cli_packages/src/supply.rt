@@ -1,7 +1,7 @@
 // The packages of files, declared by documents or read from components, and what is wrong with these files.
 ghost use Rattle.std.specs.Prelude.{◌≡◌};
 
-use crate::options::{Given, Setting};
+use crate::options::{Context, Given};
 use crate::sources::{Sources, read_sources};
 use indexmap::IndexMap;
 use std::alloc::{AllocError, Global};
@@ -260,8 +260,8 @@ impl Supply {
     }
 
     /// What is known with these packages.
-    pub(crate) fn setting(&self, alloc: Global, given: Given<'_>) -> Setting<'_> {
-        Setting {
+    pub(crate) fn context(&self, alloc: Global, given: Given<'_>) -> Context<'_> {
+        Context {
             alloc,
             report: given.report,
             known: KnownPackages {
@@ -285,11 +285,11 @@ impl Supply {
     pub(crate) fn report_all<O: Write + Drop, E: Write + Drop>(
         &self,
         console: &mut Console<O, E>,
-        setting: Setting<'_>,
+        context: Context<'_>,
     ) -> Result<Status, AllocError> {
         for text in 0..self.sources.texts.len() {
             if let Some(fault) = self.fault(text) {
-                self.report(console, setting, fault)?;
+                self.report(console, context, fault)?;
             }
         }
         Ok(worst(self.outcomes.as_slice()))
@@ -299,29 +299,29 @@ impl Supply {
     fn report<O: Write + Drop, E: Write + Drop>(
         &self,
         console: &mut Console<O, E>,
-        setting: Setting<'_>,
+        context: Context<'_>,
         fault: &DeclarationFault,
     ) -> Result<(), AllocError> {
         let path = text_at(self.sources.names.as_slice(), fault.text);
         let text = text_at(self.sources.texts.as_slice(), fault.text);
-        let diagnostic = declaration_diagnostic(setting.alloc, text, &fault.error, setting.known)?;
+        let diagnostic = declaration_diagnostic(context.alloc, text, &fault.error, context.known)?;
         let file = SourceFile {
             path,
             text: text.as_bytes(),
         };
-        console.report(setting.alloc, setting.report, &file, &diagnostic)
+        console.report(context.alloc, context.report, &file, &diagnostic)
     }
 
     /// Reports each fault, and that the file at a path can't be read.
     pub(crate) fn fail<O: Write + Drop, E: Write + Drop>(
         &self,
         console: &mut Console<O, E>,
-        setting: Setting<'_>,
+        context: Context<'_>,
         path: &str,
         error: FileError,
     ) -> Result<Status, AllocError> {
-        let before = self.report_all(console, setting)?;
-        let outcome = console.failed(setting.alloc, setting.report, path, error);
+        let before = self.report_all(console, context)?;
+        let outcome = console.failed(context.alloc, context.report, path, error);
         Ok(before.or(outcome.status(Action::Check)))
     }
 

@@ -1,7 +1,7 @@
 // `wacx targets`.
 ghost use Rattle.std.specs.Prelude.{◌≡◌};
 
-use crate::options::{Given, Setting};
+use crate::options::{Context, Given};
 use crate::requests::TargetRequest;
 use crate::supply::{Supply, supply_beside};
 use crate::worlds::{Wanted, wanted_world};
@@ -60,7 +60,7 @@ fn check_all<F: FileSystem, O: Write + Drop, E: Write + Drop>(
     check_supplied(
         console,
         &supply,
-        supply.setting(alloc, given),
+        supply.context(alloc, given),
         request,
         read,
     )
@@ -70,19 +70,19 @@ fn check_all<F: FileSystem, O: Write + Drop, E: Write + Drop>(
 fn check_supplied<O: Write + Drop, E: Write + Drop>(
     console: &mut Console<O, E>,
     supply: &Supply,
-    setting: Setting<'_>,
+    context: Context<'_>,
     request: TargetRequest<'_>,
     read: Read,
 ) -> Result<Status, AllocError> {
-    let before = supply.report_all(console, setting)?;
-    let status = check_read(console, setting, request, read)?;
+    let before = supply.report_all(console, context)?;
+    let status = check_read(console, context, request, read)?;
     Ok(before.or(status))
 }
 
 /// The same of what was read. Failures are reported.
 fn check_read<O: Write + Drop, E: Write + Drop>(
     console: &mut Console<O, E>,
-    setting: Setting<'_>,
+    context: Context<'_>,
     request: TargetRequest<'_>,
     read: Read,
 ) -> Result<Status, AllocError> {
@@ -91,10 +91,10 @@ fn check_read<O: Write + Drop, E: Write + Drop>(
         document,
     } = read;
     match component {
-        Ok(component) => check_beside(console, setting, request, component.as_slice(), document),
+        Ok(component) => check_beside(console, context, request, component.as_slice(), document),
         Err(error) => {
-            let status = fail(console, setting, request.component, error);
-            Ok(status.or(status_of(console, setting, request.document, document)))
+            let status = fail(console, context, request.component, error);
+            Ok(status.or(status_of(console, context, request.document, document)))
         }
     }
 }
@@ -102,56 +102,56 @@ fn check_read<O: Write + Drop, E: Write + Drop>(
 /// Compares the component that bytes are with the world of the document that was read.
 fn check_beside<O: Write + Drop, E: Write + Drop>(
     console: &mut Console<O, E>,
-    setting: Setting<'_>,
+    context: Context<'_>,
     request: TargetRequest<'_>,
     component: &[u8],
     document: Result<Vec<u8>, FileError>,
 ) -> Result<Status, AllocError> {
     match document {
-        Ok(document) => check_bytes(console, setting, request, component, document.as_slice()),
-        Err(error) => Ok(fail(console, setting, request.document, error)),
+        Ok(document) => check_bytes(console, context, request, component, document.as_slice()),
+        Err(error) => Ok(fail(console, context, request.document, error)),
     }
 }
 
 /// The status of what was read of a file. A failure is reported.
 fn status_of<O: Write + Drop, E: Write + Drop>(
     console: &mut Console<O, E>,
-    setting: Setting<'_>,
+    context: Context<'_>,
     path: &str,
     read: Result<Vec<u8>, FileError>,
 ) -> Status {
     match read {
         Ok(_) => Status::Well,
-        Err(error) => fail(console, setting, path, error),
+        Err(error) => fail(console, context, path, error),
     }
 }
 
 /// Reports that a file can't be read.
 fn fail<O: Write + Drop, E: Write + Drop>(
     console: &mut Console<O, E>,
-    setting: Setting<'_>,
+    context: Context<'_>,
     path: &str,
     error: FileError,
 ) -> Status {
-    let outcome = console.failed(setting.alloc, setting.report, path, error);
+    let outcome = console.failed(context.alloc, context.report, path, error);
     outcome.status(Action::Check)
 }
 
 /// Compares the component that bytes are with the world of the document that other bytes are.
 fn check_bytes<O: Write + Drop, E: Write + Drop>(
     console: &mut Console<O, E>,
-    setting: Setting<'_>,
+    context: Context<'_>,
     request: TargetRequest<'_>,
     component: &[u8],
     document: &[u8],
 ) -> Result<Status, AllocError> {
-    match component_package(setting.alloc, component, None) {
+    match component_package(context.alloc, component, None) {
         Ok(Converted::Package(component)) => {
-            check_component(console, setting, request, &component, document)
+            check_component(console, context, request, &component, document)
         }
         Ok(Converted::Rejected(diagnostic)) => {
-            reject_component(console, setting, request, &diagnostic)?;
-            reject_world(console, setting, request, document)
+            reject_component(console, context, request, &diagnostic)?;
+            reject_world(console, context, request, document)
         }
         Err(_) => Err(AllocError),
     }
@@ -160,7 +160,7 @@ fn check_bytes<O: Write + Drop, E: Write + Drop>(
 /// Reports what is wrong with the component.
 fn reject_component<O: Write + Drop, E: Write + Drop>(
     console: &mut Console<O, E>,
-    setting: Setting<'_>,
+    context: Context<'_>,
     request: TargetRequest<'_>,
     diagnostic: &Diagnostic,
 ) -> Result<Status, AllocError> {
@@ -168,13 +168,13 @@ fn reject_component<O: Write + Drop, E: Write + Drop>(
         path: request.component,
         text: b"",
     };
-    reject(console, setting, &file, diagnostic)
+    reject(console, context, &file, diagnostic)
 }
 
 /// Reports what is wrong with the document of bytes.
 fn reject_document<O: Write + Drop, E: Write + Drop>(
     console: &mut Console<O, E>,
-    setting: Setting<'_>,
+    context: Context<'_>,
     request: TargetRequest<'_>,
     bytes: &[u8],
     diagnostic: &Diagnostic,
@@ -183,26 +183,26 @@ fn reject_document<O: Write + Drop, E: Write + Drop>(
         path: request.document,
         text: bytes,
     };
-    reject(console, setting, &file, diagnostic)
+    reject(console, context, &file, diagnostic)
 }
 
 /// Compares a component with the world of the document that bytes are.
 fn check_component<O: Write + Drop, E: Write + Drop>(
     console: &mut Console<O, E>,
-    setting: Setting<'_>,
+    context: Context<'_>,
     request: TargetRequest<'_>,
     component: &Package,
     bytes: &[u8],
 ) -> Result<Status, AllocError> {
-    match wanted_world(setting, bytes, request.world) {
+    match wanted_world(context, bytes, request.world) {
         Ok(Wanted::World(expected, name)) => {
-            let misfit = misfit_of(setting.alloc, component, &expected, name.as_str())?;
+            let misfit = misfit_of(context.alloc, component, &expected, name.as_str())?;
             match misfit {
                 None => Ok(Status::Well),
-                Some(found) => reject_component(console, setting, request, &found),
+                Some(found) => reject_component(console, context, request, &found),
             }
         }
-        Ok(Wanted::Rejected(found)) => { reject_document(console, setting, request, bytes, &found) }
+        Ok(Wanted::Rejected(found)) => { reject_document(console, context, request, bytes, &found) }
         Ok(Wanted::Unresolved) => Ok(Status::Wrong),
         Err(_) => Err(AllocError),
     }
@@ -211,12 +211,12 @@ fn check_component<O: Write + Drop, E: Write + Drop>(
 /// Reports what is wrong with the document of a world, where the component is wrong too.
 fn reject_world<O: Write + Drop, E: Write + Drop>(
     console: &mut Console<O, E>,
-    setting: Setting<'_>,
+    context: Context<'_>,
     request: TargetRequest<'_>,
     bytes: &[u8],
 ) -> Result<Status, AllocError> {
-    match wanted_world(setting, bytes, request.world) {
-        Ok(Wanted::Rejected(found)) => reject_document(console, setting, request, bytes, &found),
+    match wanted_world(context, bytes, request.world) {
+        Ok(Wanted::Rejected(found)) => reject_document(console, context, request, bytes, &found),
         Ok(Wanted::World(_, _)) | Ok(Wanted::Unresolved) => Ok(Status::Wrong),
         Err(_) => Err(AllocError),
     }
@@ -225,11 +225,11 @@ fn reject_world<O: Write + Drop, E: Write + Drop>(
 /// Reports what is wrong with a file.
 fn reject<O: Write + Drop, E: Write + Drop>(
     console: &mut Console<O, E>,
-    setting: Setting<'_>,
+    context: Context<'_>,
     file: &SourceFile<'_>,
     diagnostic: &Diagnostic,
 ) -> Result<Status, AllocError> {
-    console.report(setting.alloc, setting.report, file, diagnostic)?;
+    console.report(context.alloc, context.report, file, diagnostic)?;
     Ok(Outcome::Rejected.status(Action::Check))
 }
 

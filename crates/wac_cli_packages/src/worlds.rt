@@ -1,5 +1,5 @@
 // The world of the document that a component is to fit.
-use crate::options::Setting;
+use crate::options::Context;
 use crate::verdicts::first_error_of;
 use std::alloc::{AllocError, Global};
 use wac_component_reading::with_implied_imports;
@@ -20,12 +20,12 @@ pub(crate) enum Wanted {
 /// The world of a document's bytes: the one of that name, or the only one. The document is resolved by the component
 /// model's rules, with known packages.
 pub(crate) fn wanted_world(
-    setting: Setting<'_>,
+    context: Context<'_>,
     bytes: &[u8],
     world: Option<&str>,
 ) -> Result<Wanted, AllocError> {
-    match first_error_of(setting, bytes) {
-        Ok(Composed::Resolved(graph)) => wanted_of_graph(setting.alloc, &graph, world),
+    match first_error_of(context, bytes) {
+        Ok(Composed::Resolved(graph)) => wanted_of_graph(context.alloc, &graph, world),
         Ok(Composed::Rejected(diagnostic)) => Ok(Wanted::Rejected(diagnostic)),
         Ok(Composed::Unresolved) => Ok(Wanted::Unresolved),
         Err(_) => Err(AllocError),

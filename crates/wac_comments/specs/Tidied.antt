@@ -43,7 +43,7 @@ IsPlain options source text = IsPlainWith (indent_text options.indent) (line_end
 abbrev pub IsEnded : Bool → List ℕ → List ℕ → List ℕ → Type 0
 IsEnded commented line_end formatted text = commented ≡ false → text ≡ ended line_end formatted
 
--- example: a comment stays before its token, behind a comma that is added
+-- example: a comment stays before its token, after a comma that is added
 comma_is_added : Kept (codes "record r {a/*b*/}") (codes "record r {\n    a, /*b*/\n}")
 unfolding comments_at items_from
 comma_is_added = refl

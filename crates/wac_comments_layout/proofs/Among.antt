@@ -41,7 +41,7 @@ found tokens these at (suc n) back lt le here =
     ∙ or_right (is_among tokens at these n))
     (cases_lt back n)
 
--- the token at an index behind the place where these stand is one of them
+-- the token at an index after the place where these stand is one of them
 same_passes : (P : List ℕ → Bool) (t x : List ℕ) → bytes_eq t x ≡ true → P t ≡ true → P x ≡ true
 same_passes P t x e p = subst (λ s. P s ≡ true) (bytes_eq_is t x e) p
 

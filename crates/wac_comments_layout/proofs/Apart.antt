@@ -1,4 +1,4 @@
--- What stands behind a token and doesn't continue it.
+-- What stands after a token and doesn't continue it.
 use Rattle.wac_comments_layout.proofs.Common.{◌≡◌, ℕ, Bool, true, false, cond, List, [], ◌∷◌, ◌++◌, sym, refl, ap, ◌∙◌, subst, inl, inr, ⊎_elim, arith, Some, codes, ◌&&◌, ◌||◌, not, nat_eq, nat_le, is_some, if◌then◌else◌, list_any, bytes_eq, and_parts, or_cases, false≢true, eqb-true, leb-true, is_blank, Follows, token_of, InTable, IsToken, Token, walk_follows, blank_follows, bytes_eq_is}
 use Rattle.std.proofs.lemmas.List.Folds.{list_any-append}
 use Rattle.wac_lexer.specs.Automaton.{class_of, step_of, shape_at}
@@ -12,7 +12,7 @@ use Rattle.wac_lexer.proofs.Following.{ends, follows, is_dead, quiet}
 use Rattle.wac_lexer.proofs.Sorts.{token_meant}
 use Rattle.wac_comments_layout.specs.Following.{ends_tokens, end_tokens, stands_apart, is_closed, is_access, may_follow}
 
--- a byte ends each token, whatever stands behind it
+-- a byte ends each token, whatever stands after it
 abbrev Ends : ℕ → Type 0
 Ends b = (k : Token) (u : List ℕ) → follows k (b ∷ u) ≡ true
 
@@ -129,8 +129,8 @@ both_at b c n m u ends first second t k e =
 abbrev BeforeBlanks : ℕ → Type 0
 BeforeBlanks n = EndsWith n 32 × EndsWith n 9 × EndsWith n 13 × EndsWith n 10
 
-blank_behind : (b c n : ℕ) (u : List ℕ) → BeforeBlanks n → nat_eq b n ≡ true → is_blank c ≡ true → FollowsAll (b ∷ c ∷ u)
-blank_behind b c n u ends first =
+blank_after : (b c n : ℕ) (u : List ℕ) → BeforeBlanks n → nat_eq b n ≡ true → is_blank c ≡ true → FollowsAll (b ∷ c ∷ u)
+blank_after b c n u ends first =
     let P = FollowsAll (b ∷ c ∷ u) in
     one_of P (nat_eq c 32) _ (both_at b c n 32 u ends.0 first)
     (one_of P (nat_eq c 9) _ (both_at b c n 9 u ends.1 first)
@@ -139,13 +139,13 @@ blank_behind b c n u ends first =
 after_dot : (b c : ℕ) (u : List ℕ) → nat_eq b 46 ≡ true → (is_blank c || nat_eq c 123) ≡ true → FollowsAll (b ∷ c ∷ u)
 after_dot b c u first =
     one_of (FollowsAll (b ∷ c ∷ u)) (is_blank c) (nat_eq c 123)
-    (blank_behind b c 46 u (dot_space, dot_tab, dot_return, dot_line) first)
+    (blank_after b c 46 u (dot_space, dot_tab, dot_return, dot_line) first)
     (both_at b c 46 123 u dot_brace first)
 
 two_end : (b c : ℕ) (u : List ℕ) → end_tokens b c ≡ true → FollowsAll (b ∷ c ∷ u)
 two_end b c u =
     one_of (FollowsAll (b ∷ c ∷ u)) (nat_eq b 58 && is_blank c) (nat_eq b 46 && (is_blank c || nat_eq c 123))
-    (λ e. let p = and_parts (nat_eq b 58) (is_blank c) e in blank_behind b c 58 u (colon_space, colon_tab, colon_return, colon_line) p.0 p.1)
+    (λ e. let p = and_parts (nat_eq b 58) (is_blank c) e in blank_after b c 58 u (colon_space, colon_tab, colon_return, colon_line) p.0 p.1)
     (λ e. let p = and_parts (nat_eq b 46) (is_blank c || nat_eq c 123) e in after_dot b c u p.0 p.1)
 
 end_follows : (k : Token) → follows k [] ≡ true

@@ -1,5 +1,5 @@
 -- One step of the walk over the pieces of a text, and over the comments of a gap.
-use Rattle.wac_comments_layout.proofs.Common.{◌≡◌, ℕ, zero, suc, ◌+◌, ◌<◌, ◌≤◌, true, false, cond, get_or, List, [], ◌∷◌, ◌++◌, map, take, drop, length, sym, refl, subst, ap, ◌∙◌, arith, Some, None, append_assoc, ◌==◌, nat_eq, Result, drop_all, drop_more, ne_eqb, begins, is_blank, opens, part_len, Item, Handed, handed, behind_first, OnFirst, Nexts, Reading, left, slice, Span, end_of, Error, Token, no_comment, part_by}
+use Rattle.wac_comments_layout.proofs.Common.{◌≡◌, ℕ, zero, suc, ◌+◌, ◌<◌, ◌≤◌, true, false, cond, get_or, List, [], ◌∷◌, ◌++◌, map, take, drop, length, sym, refl, subst, ap, ◌∙◌, arith, Some, None, append_assoc, ◌==◌, nat_eq, Result, drop_all, drop_more, ne_eqb, begins, is_blank, opens, part_len, Item, NextToken, next_token, after_first_item, OnFirst, Nexts, Reading, left, slice, Span, end_of, Error, Token, no_comment, part_by}
 use Rattle.wac_comments_layout.specs.Pieces.{Piece, comment_of_part, comments_at, comments_upto, end_piece, pieces_after}
 use Rattle.wac_comments_layout.specs.Texts.{pieces_of, texts_of}
 use Rattle.wac_comments_layout.specs.declared.pieces.Piece.{Piece as Read}
@@ -50,10 +50,10 @@ texts_same [] = refl
 texts_same (p ∷ found) = ap (λ rest. p.text.now ∷ rest) (texts_same found)
 
 some_none : (x : Result Token Error × Span) → Some x ≡ None → ⊥
-some_none x e = let P : Handed → Type 0 = λ o. elim o [ Some h ↦ Unit {0} | None ↦ ⊥ ] in subst P e tt
+some_none x e = let P : NextToken → Type 0 = λ o. elim o [ Some h ↦ Unit {0} | None ↦ ⊥ ] in subst P e tt
 
 -- the pieces from a place on, where `next` gives an item, and where it gives none
-pub pieces_more : (source : List ℕ) (place : ℕ) (old new : List Item) (token : Result Token Error) (span : Span) → Some (token, span) ≡ handed old → new ≡ behind_first old → OnFirst old (λ x. x.text ≡ slice source x.span)
+pub pieces_more : (source : List ℕ) (place : ℕ) (old new : List Item) (token : Result Token Error) (span : Span) → Some (token, span) ≡ next_token old → new ≡ after_first_item old → OnFirst old (λ x. x.text ≡ slice source x.span)
     → pieces_after source place old ≡ comments_at source place ++ record { text = slice source span; span = span } ∷ pieces_after source (end_of span) new
 pieces_more source place [] new token span gives rest text = absurd (some_none (token, span) gives)
 pieces_more source place (x ∷ xs) new token span gives rest text =
@@ -62,7 +62,7 @@ pieces_more source place (x ∷ xs) new token span gives rest text =
     let later : xs ≡ new = sym rest in
     (λ i. comments_at source place ++ record { text = is i; span = same i } ∷ pieces_after source (end_of (same i)) (later i))
 
-pub pieces_none : (source : List ℕ) (place : ℕ) (old : List Item) → None ≡ handed old → pieces_after source place old ≡ comments_at source place ++ end_piece source ∷ []
+pub pieces_none : (source : List ℕ) (place : ℕ) (old : List Item) → None ≡ next_token old → pieces_after source place old ≡ comments_at source place ++ end_piece source ∷ []
 pieces_none source place [] gives = refl
 pieces_none source place (x ∷ xs) gives = absurd (some_none (x.token, x.span) (sym gives))
 

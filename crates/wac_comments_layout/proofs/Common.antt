@@ -13,9 +13,9 @@ pub use Rattle.wac_lexer.proofs.Standing.{blank_follows, stands_alone, walk_foll
 pub use Rattle.wac_lexer.proofs.Texts.{bytes_eq_is}
 pub use Rattle.wac_lexer.proofs.Unfolded.{before_others, item_is, items_end, items_none, items_some, made, start_of}
 pub use Rattle.wac_lexer.specs.Characters.{refused}
-pub use Rattle.wac_lexer.specs.Comments.{begins, behind, closes, gap, is_blank, opens, part_len}
+pub use Rattle.wac_lexer.specs.Comments.{begins, after, closes, gap, is_blank, opens, part_len}
 pub use Rattle.wac_lexer.specs.Follow.{Follows}
-pub use Rattle.wac_lexer.specs.Item.{Handed, Item, OnFirst, behind_first, handed}
+pub use Rattle.wac_lexer.specs.Item.{NextToken, Item, OnFirst, after_first_item, next_token}
 pub use Rattle.wac_lexer.specs.Items.{fault_of, first_char_len, first_item, items, items_upto, with_fault}
 pub use Rattle.wac_lexer.specs.Reading.{Nexts, Reading, left, slice}
 pub use Rattle.wac_lexer.specs.Span.{Span, end_of, span}

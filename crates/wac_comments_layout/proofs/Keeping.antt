@@ -2,7 +2,7 @@
 use Rattle.wac_comments_layout.proofs.Common.{◌≡◌, ℕ, ◌+◌, Bool, true, false, cond, List, [], ◌∷◌, ◌++◌, filter, sym, refl, ap, ◌∙◌, append_assoc, append-nil, codes}
 use Rattle.std.proofs.lemmas.List.Elements.{filter-append}
 use Rattle.wac_comments_layout.specs.Kept.{is_comment}
-use Rattle.wac_comments_layout.specs.Printing.{Texts, added, ends_resource, goes, innermost, needs_comma, opened_behind, printed, printed_from, spelled, tokens_of}
+use Rattle.wac_comments_layout.specs.Printing.{Texts, added, ends_resource, goes, innermost, needs_comma, opened_after, printed, printed_from, spelled, tokens_of}
 use Rattle.wac_comments_layout.specs.declared.brackets.Brackets.{Brackets}
 
 abbrev comments_of : Texts → Texts
@@ -19,13 +19,13 @@ none_spelled : (resource : Bool) (text : List ℕ) → is_comment text ≡ false
 none_spelled true text e = refl
 none_spelled false text e = e
 
--- what is printed of a token and of what stands behind it, by whether the token goes
+-- what is printed of a token and of what stands after it, by whether the token goes
 abbrev by_test : Texts → ℕ → List Brackets → Texts → List ℕ → Texts → Bool → Texts
 by_test tokens at opened waiting text texts b =
-    cond b (printed_from tokens (at + 1) (opened_behind tokens at opened) waiting texts)
-    (waiting ++ spelled tokens at text ∷ printed_from tokens (at + 1) (opened_behind tokens at opened) [] texts)
+    cond b (printed_from tokens (at + 1) (opened_after tokens at opened) waiting texts)
+    (waiting ++ spelled tokens at text ∷ printed_from tokens (at + 1) (opened_after tokens at opened) [] texts)
 
--- what is printed of a comment or a token and of what stands behind it, by whether it is a comment
+-- what is printed of a comment or a token and of what stands after it, by whether it is a comment
 abbrev by_sort : Texts → ℕ → List Brackets → Texts → List ℕ → Texts → Bool → Texts
 by_sort tokens at opened waiting text texts b =
     cond b (printed_from tokens at opened (waiting ++ text ∷ []) texts)
@@ -35,15 +35,15 @@ by_sort tokens at opened waiting text texts b =
 abbrev Keeps : Texts → Texts → Texts → Type 0
 Keeps waiting texts made = comments_of made ≡ comments_of waiting ++ comments_of texts
 
--- one step, where what is printed behind it keeps its comments
+-- one step, where what is printed after it keeps its comments
 module _ (tokens : Texts) (at : ℕ) (opened : List Brackets) (waiting : Texts) (text : List ℕ) (texts : Texts)
     (here : Keeps (waiting ++ text ∷ []) texts (printed_from tokens at opened (waiting ++ text ∷ []) texts))
-    (later : (waits : Texts) → Keeps waits texts (printed_from tokens (at + 1) (opened_behind tokens at opened) waits texts)) where
+    (later : (waits : Texts) → Keeps waits texts (printed_from tokens (at + 1) (opened_after tokens at opened) waits texts)) where
   tested : (b : Bool) → is_comment text ≡ false → Keeps waiting texts (by_test tokens at opened waiting text texts b)
   tested true e = later waiting
   tested false e =
       let word = spelled tokens at text in
-      let rest = printed_from tokens (at + 1) (opened_behind tokens at opened) [] texts in
+      let rest = printed_from tokens (at + 1) (opened_after tokens at opened) [] texts in
       let none = none_spelled (ends_resource tokens at) text e in
       filter-append is_comment waiting (word ∷ rest)
       ∙ ap (λ (t : Bool). comments_of waiting ++ cond t (word ∷ comments_of rest) (comments_of rest)) none
@@ -66,7 +66,7 @@ comments_from tokens at opened waiting [] = sym (append-nil (comments_of waiting
 comments_from tokens at opened waiting (text ∷ texts) =
     sorted tokens at opened waiting text texts
     (comments_from tokens at opened (waiting ++ text ∷ []) texts)
-    (λ waits. comments_from tokens (at + 1) (opened_behind tokens at opened) waits texts)
+    (λ waits. comments_from tokens (at + 1) (opened_after tokens at opened) waits texts)
     (is_comment text) refl
 
 pub comments_printed : (texts : Texts) → filter is_comment (printed texts) ≡ filter is_comment texts

@@ -1,7 +1,7 @@
 -- What holds of each token and comment of a text, and of the marks that printing adds, holds of each that is printed.
 use Rattle.wac_comments_layout.proofs.Common.{ℕ, ◌+◌, List, [], ◌∷◌, ◌++◌, codes, AllByRecursion, cond_both}
 use Rattle.wac_comments_layout.specs.Kept.{is_comment}
-use Rattle.wac_comments_layout.specs.Printing.{Texts, added, ends_resource, goes, innermost, needs_comma, opened_behind, printed, printed_from, spelled, tokens_of}
+use Rattle.wac_comments_layout.specs.Printing.{Texts, added, ends_resource, goes, innermost, needs_comma, opened_after, printed, printed_from, spelled, tokens_of}
 use Rattle.wac_comments_layout.specs.declared.brackets.Brackets.{Brackets}
 
 module _ (P : List ℕ → Type 0) (opening : P (codes "{")) (closing : P (codes "}")) (comma : P (codes ",")) where
@@ -20,7 +20,7 @@ module _ (P : List ℕ → Type 0) (opening : P (codes "{")) (closing : P (codes
   all_from : (tokens : Texts) (at : ℕ) (opened : List Brackets) (waiting texts : Texts) → AllByRecursion P waiting → AllByRecursion P texts → AllByRecursion P (printed_from tokens at opened waiting texts)
   all_from tokens at opened waiting [] w h = w
   all_from tokens at opened waiting (text ∷ texts) w h =
-      let later = opened_behind tokens at opened in
+      let later = opened_after tokens at opened in
       let after = printed_from tokens (at + 1) later [] texts in
       cond_both (is_comment text) (printed_from tokens at opened (waiting ++ text ∷ []) texts) _ (AllByRecursion P)
       (λ e. all_from tokens at opened (waiting ++ text ∷ []) texts (both waiting (text ∷ []) w (h.0, tt)) h.1)

@@ -1,7 +1,7 @@
 -- One step over tokens and comments that are printed.
 use Rattle.wac_comments_layout.proofs.Common.{◌≡◌, ℕ, ◌+◌, ◌<◌, Bool, true, false, cond, List, [], ◌∷◌, ◌++◌, drop, length, get_or, sym, refl, ap, ◌∙◌, arith, append_assoc, not, drop-drop, drop_more, length-drop}
 use Rattle.wac_comments_layout.specs.Kept.{is_comment}
-use Rattle.wac_comments_layout.specs.Printing.{Texts, Progress, added, goes, spelled, innermost, opened_behind, printed_from, tokens_of, with_comment, with_added, with_printed, passed, with_token, with_piece}
+use Rattle.wac_comments_layout.specs.Printing.{Texts, Progress, added, goes, spelled, innermost, opened_after, printed_from, tokens_of, with_comment, with_added, with_printed, passed, with_token, with_piece}
 use Rattle.wac_comments_layout.specs.Texts.{texts_of}
 use Rattle.wac_comments_layout.specs.declared.pieces.Piece.{Piece}
 
@@ -15,12 +15,12 @@ texts_more pieces i piece lt is =
 abbrev pub whole : Texts → Progress → Texts → Texts
 whole tokens p texts = p.done ++ printed_from tokens p.at p.opened p.waiting texts
 
--- what is printed of the next token and of what stands behind it, by whether the token goes
+-- what is printed of the next token and of what stands after it, by whether the token goes
 abbrev by_test : Texts → Progress → List ℕ → Texts → Bool → Texts
 by_test tokens p text rest b =
     added tokens p.at (innermost p.opened)
-    ++ cond b (printed_from tokens (p.at + 1) (opened_behind tokens p.at p.opened) p.waiting rest)
-    (p.waiting ++ spelled tokens p.at text ∷ printed_from tokens (p.at + 1) (opened_behind tokens p.at p.opened) [] rest)
+    ++ cond b (printed_from tokens (p.at + 1) (opened_after tokens p.at p.opened) p.waiting rest)
+    (p.waiting ++ spelled tokens p.at text ∷ printed_from tokens (p.at + 1) (opened_after tokens p.at p.opened) [] rest)
 
 -- the same after the token
 abbrev after_test : Texts → Progress → List ℕ → Bool → Progress
@@ -29,14 +29,14 @@ after_test tokens p text b = passed tokens (cond b (with_added tokens p) (with_p
 tested : (tokens : Texts) (p : Progress) (text : List ℕ) (rest : Texts) (b : Bool)
     → whole tokens (after_test tokens p text b) rest ≡ p.done ++ by_test tokens p text rest b
 tested tokens p text rest true =
-    append_assoc p.done (added tokens p.at (innermost p.opened)) (printed_from tokens (p.at + 1) (opened_behind tokens p.at p.opened) p.waiting rest)
+    append_assoc p.done (added tokens p.at (innermost p.opened)) (printed_from tokens (p.at + 1) (opened_after tokens p.at p.opened) p.waiting rest)
 tested tokens p text rest false =
     let front = added tokens p.at (innermost p.opened) in
-    let later = printed_from tokens (p.at + 1) (opened_behind tokens p.at p.opened) [] rest in
+    let later = printed_from tokens (p.at + 1) (opened_after tokens p.at p.opened) [] rest in
     let same : (((p.done ++ front) ++ p.waiting) ++ spelled tokens p.at text ∷ []) ++ later ≡ p.done ++ (front ++ (p.waiting ++ (spelled tokens p.at text ∷ later))) = simp append_assoc in
     same
 
--- what is printed of a comment or a token and of what stands behind it, by whether it is a comment
+-- what is printed of a comment or a token and of what stands after it, by whether it is a comment
 abbrev by_sort : Texts → Progress → List ℕ → Texts → Bool → Texts
 by_sort tokens p text rest b =
     p.done ++ cond b (printed_from tokens p.at p.opened (p.waiting ++ text ∷ []) rest) (by_test tokens p text rest (goes tokens p.at (innermost p.opened)))

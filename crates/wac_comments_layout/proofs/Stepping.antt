@@ -51,7 +51,7 @@ part_step source place p e positive more =
     let step = comments_more source (length source) place p e positive more (omega arith) in
     step.2 ∙ ap (λ c. comment_of_part place (take p (drop place source)) ++ c) (same_comments source step.0 (length source) (place + p) step.1 (omega arith))
 
--- behind a part the next item begins where it did
+-- after a part the next item begins where it did
 same_start : (source : List ℕ) (place p : ℕ) → part_len (drop place source) ≡ p → 0 < p → place < length source → start_of source place ≡ start_of source (place + p)
 same_start source place p e positive more =
     let here = gap_part (drop place source) p e positive (omega (arith, more, length-drop place source)) in

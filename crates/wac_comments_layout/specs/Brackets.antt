@@ -34,7 +34,7 @@ is_flat Rows = false
 is_flat Arguments = false
 is_flat Flat = true
 
--- whether each element has a comma behind it
+-- whether each element has a comma after it
 abbrev pub has_commas : Brackets → Bool
 has_commas Body = false
 has_commas Rows = true

@@ -1,4 +1,4 @@
--- What stands behind a token, so that nothing of it continues the token: a test of the token and of two bytes. Where it fails there may be none.
+-- What stands after a token, so that nothing of it continues the token: a test of the token and of two bytes. Where it fails there may be none.
 use Rattle.std.specs.Prelude.{◌≡◌, refl, codes, ℕ, ◌≤◌, Bool, true, false, ◌&&◌, ◌||◌, not, nat_eq, nat_le, List, ◌∷◌, length, map, Some, None, slice_get, ◌⊎◌}
 use Rattle.std.specs.List.{list_any}
 use Rattle.std.specs.Str.{bytes_eq}
@@ -18,11 +18,11 @@ ends_tokens b =
 abbrev pub end_tokens : ℕ → ℕ → Bool
 end_tokens b c = (nat_eq b colon && is_blank c) || (nat_eq b full_stop && (is_blank c || nat_eq c open_brace))
 
--- whether what stands behind continues no token
+-- whether what stands after continues no token
 abbrev pub stands_apart : List ℕ → Bool
-stands_apart behind =
-    elim (slice_get behind 0) [
-      | Some b ↦ ends_tokens b || elim (slice_get behind 1) [ Some c ↦ end_tokens b c | None ↦ false ]
+stands_apart after =
+    elim (slice_get after 0) [
+      | Some b ↦ ends_tokens b || elim (slice_get after 1) [ Some c ↦ end_tokens b c | None ↦ false ]
       | None ↦ true
     ]
 
@@ -32,15 +32,15 @@ is_closed token = bytes_eq token (codes "(") || (bytes_eq token (codes "<") || (
 
 -- whether a word without a colon stands before a dot, or a dot before a small letter
 abbrev pub is_access : List ℕ → List ℕ → Bool
-is_access token behind =
-    elim (slice_get behind 0) [
+is_access token after =
+    elim (slice_get after 0) [
       | Some b ↦ (nat_eq b full_stop && (not (bytes_eq token (codes ".")) && not (list_any (λ t. nat_eq t colon) token))) || (bytes_eq token (codes ".") && (nat_le small_a b && nat_le b small_z))
       | None ↦ false
     ]
 
--- whether the test shows that what stands behind a token doesn't continue it
+-- whether the test shows that what stands after a token doesn't continue it
 abbrev pub may_follow : List ℕ → List ℕ → Bool
-may_follow token behind = stands_apart behind || (is_closed token || is_access token behind)
+may_follow token after = stands_apart after || (is_closed token || is_access token after)
 
 -- the texts of the pieces from a place of a text on
 abbrev pub texts_from : List ℕ → ℕ → List (List ℕ)

@@ -40,13 +40,13 @@ empty_with = codes "with" ∷ codes "{" ∷ codes "}" ∷ []
 abbrev pub may_be_of_with : List ℕ → Bool
 may_be_of_with token = elim (slice_get token 0) [ Some b ↦ nat_eq b 119 || (nat_eq b 123 || nat_eq b 125) | None ↦ false ]
 
--- whether the token is a comma before the end of a list on one line, or behind a fill that ends arguments
+-- whether the token is a comma before the end of a list on one line, or after a fill that ends arguments
 abbrev pub is_last_comma : Texts → ℕ → Brackets → Bool
 is_last_comma tokens at around =
     bytes_eq (token_at tokens at) (codes ",")
     && (is_closing (token_at tokens (at + 1)) && (is_flat around || bytes_eq (token_before tokens at 1) (codes "...")))
 
--- whether printing drops the token at an index: an empty `with`, results that are nothing, and the comma behind the last of a list
+-- whether printing drops the token at an index: an empty `with`, results that are nothing, and the comma after the last of a list
 abbrev pub goes : Texts → ℕ → Brackets → Bool
 goes tokens at around =
     is_among tokens at empty_with 3
@@ -103,9 +103,9 @@ spelled tokens at text = if ends_resource tokens at then codes "}" else text
 abbrev pub innermost : List Brackets → Brackets
 innermost opened = unwrap_or (slice_get opened (length opened - 1)) Body
 
--- the brackets that are open behind the token at an index, where these are before it
-abbrev pub opened_behind : Texts → ℕ → List Brackets → List Brackets
-opened_behind tokens at opened =
+-- the brackets that are open after the token at an index, where these are before it
+abbrev pub opened_after : Texts → ℕ → List Brackets → List Brackets
+opened_after tokens at opened =
     if is_opening (token_at tokens at) then opened ++ opened_by (token_at tokens at) (token_before tokens at 1) (token_before tokens at 2) ∷ []
     else (if is_closing (token_at tokens at) then take (length opened - 1) opened else opened)
 
@@ -116,8 +116,8 @@ printed_from tokens at opened waiting [] = waiting
 printed_from tokens at opened waiting (text ∷ texts) =
     if is_comment text then printed_from tokens at opened (waiting ++ text ∷ []) texts
     else added tokens at (innermost opened) ++ (if goes tokens at (innermost opened)
-    then printed_from tokens (at + 1) (opened_behind tokens at opened) waiting texts
-    else waiting ++ spelled tokens at text ∷ printed_from tokens (at + 1) (opened_behind tokens at opened) [] texts)
+    then printed_from tokens (at + 1) (opened_after tokens at opened) waiting texts
+    else waiting ++ spelled tokens at text ∷ printed_from tokens (at + 1) (opened_after tokens at opened) [] texts)
 
 abbrev pub tokens_of : Texts → Texts
 tokens_of texts = filter (λ text. not (is_comment text)) texts
@@ -153,9 +153,9 @@ with_waiting p = record p { done = p.done ++ p.waiting; waiting = [] }
 abbrev pub with_printed : List ℕ → Progress → Progress
 with_printed text p = record p { done = p.done ++ p.waiting ++ text ∷ []; waiting = [] }
 
--- behind the next token
+-- after the next token
 abbrev pub passed : Texts → Progress → Progress
-passed tokens p = record p { at = p.at + 1; opened = opened_behind tokens p.at p.opened }
+passed tokens p = record p { at = p.at + 1; opened = opened_after tokens p.at p.opened }
 
 -- after the next token, whose text this is
 abbrev pub with_token : Texts → List ℕ → Progress → Progress

@@ -12,7 +12,7 @@ texts_of pieces = map (λ p. p.text.now) pieces
 abbrev pub pieces_of : List Piece → List spec.Piece
 pieces_of pieces = map (λ p. record { text = p.text.now; span = p.span }) pieces
 
--- pieces, and more of them behind
+-- pieces, and more of them after
 abbrev pub Adds : List Piece → List spec.Piece → List Piece → Type 0
 Adds old more new = pieces_of new ≡ pieces_of old ++ more
 

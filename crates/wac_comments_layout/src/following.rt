@@ -29,14 +29,14 @@ fn end_tokens(first: u8, second: u8) -> bool
     first == b':' && is_blank(second) || first == b'.' && (is_blank(second) || second == b'{')
 }
 
-/// Whether what stands behind continues no token.
-fn stands_apart(behind: &[u8]) -> bool
-    ensures { result ≡ stands_apart behind.now }
+/// Whether what stands after continues no token.
+fn stands_apart(after: &[u8]) -> bool
+    ensures { result ≡ stands_apart after.now }
 {
-    match behind.first() {
+    match after.first() {
         Some(first) => {
             ends_tokens(*first)
-                || match behind.get(1) {
+                || match after.get(1) {
                     Some(second) => end_tokens(*first, *second),
                     None => false,
                 }
@@ -57,10 +57,10 @@ fn is_closed(token: &str) -> bool
 }
 
 /// Whether a word stands before a dot, or a dot before a word.
-fn is_access(token: &str, behind: &[u8]) -> bool
-    ensures { result ≡ is_access token.now behind.now }
+fn is_access(token: &str, after: &[u8]) -> bool
+    ensures { result ≡ is_access token.now after.now }
 {
-    match behind.first() {
+    match after.first() {
         Some(byte) => {
             let is_dot = is_mark(token, b'.');
             *byte == b'.' && !is_dot && !token.as_bytes().contains(&b':')
@@ -70,9 +70,9 @@ fn is_access(token: &str, behind: &[u8]) -> bool
     }
 }
 
-/// Whether it is plain that what stands behind a token doesn't continue it.
-pub(crate) fn may_follow(token: &str, behind: &[u8]) -> bool
-    ensures { result ≡ may_follow token.now behind.now }
+/// Whether it is plain that what stands after a token doesn't continue it.
+pub(crate) fn may_follow(token: &str, after: &[u8]) -> bool
+    ensures { result ≡ may_follow token.now after.now }
 {
-    stands_apart(behind) || is_closed(token) || is_access(token, behind)
+    stands_apart(after) || is_closed(token) || is_access(token, after)
 }

@@ -50,7 +50,7 @@ impl<'a> Seam<'a> {
             && !self.place.is_last()
     }
 
-    fn is_behind_item(&self) -> bool {
+    fn is_after_item(&self) -> bool {
         self.place.is_break() && self.brackets == Brackets::Body && !self.place.is_first()
     }
 
@@ -169,7 +169,7 @@ impl<'a> Seam<'a> {
         {
             return false;
         }
-        if self.is_behind_item() && !has_line {
+        if self.is_after_item() && !has_line {
             return true;
         }
         let breaks = match self.pieces.get(index) {

@@ -2,7 +2,7 @@
 ghost use Rattle.std.specs.Prelude.{true, ◌≡◌, ◌≤◌, ◌<◌, ◌-◌, ◌+◌, Some, None, length, drop, MatchOption};
 ghost use Rattle.std.specs.List.{suffix_len};
 ghost use Rattle.wac_comments_layout.specs.Kept.{kept_len, is_line};
-ghost use Rattle.wac_lexer.specs.Comments.{behind, opens, closes, line_len, block_len, part_len, is_blank};
+ghost use Rattle.wac_lexer.specs.Comments.{after, opens, closes, line_len, block_len, part_len, is_blank};
 
 pub(crate) fn opens(bytes: &[u8]) -> bool
     ensures { result ≡ opens bytes.now }
@@ -18,7 +18,7 @@ fn closes(bytes: &[u8]) -> bool
 
 /// The end of the comment in which the bytes begin: how many bytes up to there.
 fn comment_end(bytes: &[u8]) -> Option<usize>
-    ensures ends { MatchOption result (behind 1 bytes.now ≡ None) (λ n. behind 1 bytes.now ≡ Some (drop n bytes.now)) }
+    ensures ends { MatchOption result (after 1 bytes.now ≡ None) (λ n. after 1 bytes.now ≡ Some (drop n bytes.now)) }
     ensures within { MatchOption result (Unit {0}) (λ n. n ≤ length bytes.now) }
 {
     let mut depth = 1usize;

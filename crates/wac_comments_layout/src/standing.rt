@@ -76,8 +76,8 @@ fn after_token(bytes: &[u8], place: usize, token: &str) -> Option<usize>
     if rest.len() < text.len() {
         return None;
     }
-    let (front, behind) = rest.split_at(text.len());
-    if front == text && may_follow(token, behind) {
+    let (front, after) = rest.split_at(text.len());
+    if front == text && may_follow(token, after) {
         Some(place + text.len())
     } else {
         None

@@ -15,7 +15,7 @@ pub record BeginsBefore (text : List ℕ) (n at : ℕ) : Type 0 where
 pub nothing_read : (text : List ℕ) → BeginsBefore text 0 0
 nothing_read text = record { within = omega arith; word = λ i a b. absurd (omega (arith, b)); begins = inl refl }
 
--- one more byte: of the word, or behind which one may begin
+-- one more byte: of the word, or after which one may begin
 pub word_goes_on : (text : List ℕ) (n at b : ℕ) → BeginsBefore text n at → b ≡ slice_index text n → is_word b ≡ true → BeginsBefore text (n + 1) at
 word_goes_on text n at b so_far is h =
     record {

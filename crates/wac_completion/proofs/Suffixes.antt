@@ -2,7 +2,7 @@
 use Rattle.std.proofs.Common.{◌≡◌, refl, sym, ap, ◌∙◌, ℕ, List, [], ◌∷◌, ◌++◌, map, Bool, true, false, Option, Some, None, Ok, Err, eqb-true}
 use Rattle.std.specs.Prelude.{Result, nat_lt, ◌&&◌, if◌then◌else◌}
 use Rattle.std.proofs.lemmas.List.{append_assoc, map-append}
-use Rattle.wac_lexer.specs.Item.{Item, Handed, handed, behind_first}
+use Rattle.wac_lexer.specs.Item.{Item, NextToken, next_token, after_first_item}
 use Rattle.wac_lexer.specs.Span.{Span}
 use Rattle.wac_lexer.specs.declared.token.Token.{Token}
 use Rattle.wac_lexer.specs.declared.token.Token.TheVariants as t
@@ -14,29 +14,29 @@ use Rattle.wac_completion.specs.Standing.{are_rest, reads_from}
 
 -- ---- one item after another
 
-abbrev read_at : ℕ → Token → Option Token → Handed → List Item → Bool
+abbrev read_at : ℕ → Token → Option Token → NextToken → List Item → Bool
 read_at place k next None rest = false
 read_at place k next (Some x) rest = if nat_lt x.1.offset place then reads_from place k next rest else is_token k x.0 && are_rest next rest
 
-one_more : (place : ℕ) (k : Token) (next : Option Token) (xs : List Item) → reads_from place k next xs ≡ read_at place k next (handed xs) (behind_first xs)
+one_more : (place : ℕ) (k : Token) (next : Option Token) (xs : List Item) → reads_from place k next xs ≡ read_at place k next (next_token xs) (after_first_item xs)
 one_more place k next [] = refl
 one_more place k next (x ∷ xs) = refl
 
 -- none is left
-pub none_left : (place : ℕ) (k : Token) (next : Option Token) (xs : List Item) → None ≡ handed xs → false ≡ reads_from place k next xs
-none_left place k next xs e = sym (one_more place k next xs ∙ ap (λ h. read_at place k next h (behind_first xs)) (sym e))
+pub none_left : (place : ℕ) (k : Token) (next : Option Token) (xs : List Item) → None ≡ next_token xs → false ≡ reads_from place k next xs
+none_left place k next xs e = sym (one_more place k next xs ∙ ap (λ h. read_at place k next h (after_first_item xs)) (sym e))
 
-module _ (place : ℕ) (k : Token) (next : Option Token) (old new : List Item) (x : Result Token Error) (s : Span) (gives : Some (x, s) ≡ handed old) (rest : new ≡ behind_first old) where
+module _ (place : ℕ) (k : Token) (next : Option Token) (old new : List Item) (x : Result Token Error) (s : Span) (gives : Some (x, s) ≡ next_token old) (rest : new ≡ after_first_item old) where
   here : reads_from place k next old ≡ read_at place k next (Some (x, s)) new
-  here = one_more place k next old ∙ ap (λ h. read_at place k next h (behind_first old)) (sym gives) ∙ ap (read_at place k next (Some (x, s))) (sym rest)
+  here = one_more place k next old ∙ ap (λ h. read_at place k next h (after_first_item old)) (sym gives) ∙ ap (read_at place k next (Some (x, s))) (sym rest)
 
   -- an item before the place
   pub before : nat_lt s.offset place ≡ true → reads_from place k next old ≡ reads_from place k next new
   before less = here ∙ rw less refl
 
-  -- the first one behind it
-  pub behind : nat_lt s.offset place ≡ false → reads_from place k next old ≡ (is_token k x && are_rest next new)
-  behind less = here ∙ rw less refl
+  -- the first one after it
+  pub after : nat_lt s.offset place ≡ false → reads_from place k next old ≡ (is_token k x && are_rest next new)
+  after less = here ∙ rw less refl
 
 -- ---- the last item
 

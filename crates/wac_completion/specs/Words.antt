@@ -16,7 +16,7 @@ pub record WordBegins (text : List ℕ) (at : ℕ) : Type 0 where
   pub word : (i : ℕ) → at ≤ i → i < length text → is_word (slice_index text i) ≡ true
   pub begins : (at ≡ 0) ⊎ (is_word (slice_index text (at - 1)) ≡ false)
 
--- These are the kinds that can stand at an offset between two characters: behind the text before it, without the word at
+-- These are the kinds that can stand at an offset between two characters: after the text before it, without the word at
 -- that text's end.
 abbrev pub AreKindsAt : List ℕ → ℕ → List Token → Type 0
 AreKindsAt source offset found =

@@ -52,7 +52,7 @@ fn are_rest(lexer: &Lexer<'_>, next: Option<Token>) -> bool
     }
 }
 
-/// Whether a token and perhaps another one are all that is left behind an item and with it.
+/// Whether a token and perhaps another one are all that is left after an item and with it.
 fn are_last(item: LexerResult<Token>, lexer: &Lexer<'_>, kind: Token, next: Option<Token>) -> bool
     ensures { result ≡ is_token kind item && are_rest next (left lexer.now) }
 {
@@ -130,7 +130,7 @@ fn is_begun(alloc: Global, text: &str, kind: Token, next: Option<Token>) -> Resu
     Ok(found)
 }
 
-/// Whether a string can stand behind a text.
+/// Whether a string can stand after a text.
 fn string_can_follow(alloc: Global, text: &str) -> Result<bool, AllocError>
     ensures { IfOk result (λ b. MatchBool b (CanFollow text.now the_tokens.String)
         (¬ (CanFollow text.now the_tokens.String))) }
@@ -147,7 +147,7 @@ fn string_can_follow(alloc: Global, text: &str) -> Result<bool, AllocError>
     Ok(before_bracket)
 }
 
-/// Whether a token of a kind can stand behind a text. The error is that memory ran out.
+/// Whether a token of a kind can stand after a text. The error is that memory ran out.
 pub(crate) fn can_follow(alloc: Global, text: &str, kind: Token) -> Result<bool, AllocError>
     ensures { IfOk result (λ b. MatchBool b (CanFollow text.now kind) (¬ (CanFollow text.now kind))) }
 {

@@ -87,7 +87,7 @@ fn missing(alloc: Global, text: &str) -> Result<Lack, AllocError> {
 enum Lack {
     /// It is a document.
     Nothing,
-    /// This token, perhaps with others behind it.
+    /// This token, perhaps with others after it.
     Token(Token),
     /// It has a fault before its end.
     Other,

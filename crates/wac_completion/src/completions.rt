@@ -101,7 +101,7 @@ fn no_completions(alloc: Global, start: usize) -> Completions {
     }
 }
 
-/// The names, keywords and symbols that can stand behind a text and begin with a word.
+/// The names, keywords and symbols that can stand after a text and begin with a word.
 fn completions_after(
     alloc: Global,
     source: &str,

@@ -123,7 +123,7 @@ impl<'t> Recent<'t> {
         }
     }
 
-    /// What a brace behind them encloses.
+    /// What a brace after them encloses.
     fn opened(self) -> Opened<'t> {
         if text_if(self.second, Token::NewKeyword).is_some() {
             return match text_if(self.last, Token::PackageName) {
@@ -227,7 +227,7 @@ impl<'t> Reader<'t> {
         }
     }
 
-    /// Takes a brace that closes something: behind arguments there is an instance.
+    /// Takes a brace that closes something: after arguments there is an instance.
     fn close(&mut self) -> Result<Option<usize>, AllocError> {
         match self.braces.pop() {
             Some(brace) => match brace.opened {
@@ -265,7 +265,7 @@ impl<'t> Reader<'t> {
         Ok(())
     }
 
-    /// Takes an identifier, which behind `let` or `import` is bound, unless that is in braces, and behind a dot names an
+    /// Takes an identifier, which after `let` or `import` is bound, unless that is in braces, and after a dot names an
     /// export.
     fn name(&mut self, text: &'t str) -> Result<Option<usize>, AllocError> {
         let recent = self.recent;
@@ -356,7 +356,7 @@ fn within(brace: Brace<'_>) -> Option<Foreign<'_>> {
     }
 }
 
-/// What of a foreign package can stand behind what was read.
+/// What of a foreign package can stand after what was read.
 pub(crate) fn foreign_after<'t>(
     alloc: Global,
     reader: Reader<'t>,
@@ -380,7 +380,7 @@ pub(crate) fn foreign_after<'t>(
     }
 }
 
-/// Whether a token of a kind can stand behind a text, of which faulty statements are blanked.
+/// Whether a token of a kind can stand after a text, of which faulty statements are blanked.
 fn takes(alloc: Global, text: &str, kind: Token) -> Result<bool, AllocError> {
     match recover(alloc, text)? {
         Some(recovered) => can_follow(alloc, recovered.text(), kind),
@@ -401,7 +401,7 @@ fn open_quote(text: &str) -> Option<usize> {
     None
 }
 
-/// What is asked for behind a text where a token of a kind can stand, by the text's tokens.
+/// What is asked for after a text where a token of a kind can stand, by the text's tokens.
 fn foreign_at_end<'t>(
     alloc: Global,
     text: &'t str,
@@ -441,7 +441,7 @@ fn read(alloc: Global, text: &str) -> Result<Reader<'_>, AllocError> {
 }
 
 /// Which names of a foreign package can stand at an offset in bytes, as the tokens before it say: arguments and types in
-/// braces, and exports behind a dot or a bracket, of an instance or of a name that `let` or `import` binds to one. A word
+/// braces, and exports after a dot or a bracket, of an instance or of a name that `let` or `import` binds to one. A word
 /// that touches the offset from the left is cut off first, and so is a string that is open there.
 ///
 /// `None` where no name of a foreign package is asked for, where no such name can stand, as in a comment, and where the

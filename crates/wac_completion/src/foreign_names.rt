@@ -15,13 +15,13 @@ pub struct ForeignName<'t> {
     pub foreign: Foreign<'t>,
 }
 
-/// Whether an offset is at a name, or just behind it.
+/// Whether an offset is at a name, or just after it.
 fn is_at(token: Token, span: SourceSpan, offset: usize) -> bool {
     let end = span.offset().saturating_add(span.len());
     matches!(token, Token::Ident | Token::String) && span.offset() <= offset && offset <= end
 }
 
-/// A name behind what was read, if it is one of a foreign package. An argument that is an identifier and has no colon names
+/// A name after what was read, if it is one of a foreign package. An argument that is an identifier and has no colon names
 /// what the text itself binds too.
 fn named<'t>(
     alloc: Global,

@@ -8,7 +8,7 @@ use wac_recovery::{Attempt, Fault, Round, first_round};
 /// How many faulty statements are blanked at most.
 const MOST: usize = 100;
 
-/// What is put behind the text while its faulty statements are searched for, so that it shows which of them has no end.
+/// What is put after the text while its faulty statements are searched for, so that it shows which of them has no end.
 const MARK: &str = " a";
 
 /// The text before an offset, without the word at its end, and that word. `None` where the offset isn't between two
@@ -24,7 +24,7 @@ pub(crate) fn before(source: &str, offset: usize) -> Option<(&str, &str)> {
 /// A text without its faulty statements, which are blanked.
 #[derive(Drop)]
 pub(crate) struct Recovered {
-    /// The text, with the mark behind it.
+    /// The text, with the mark after it.
     attempt: Attempt,
 }
 

@@ -11,7 +11,7 @@ use std::alloc::{AllocError, Global};
 use wac_comments_layout::too_deep;
 use wac_lexer::Token;
 
-/// Those of some kinds that can stand behind a text.
+/// Those of some kinds that can stand after a text.
 fn kept(alloc: Global, text: &str, kinds: &[Token]) -> Result<Vec<Token>, AllocError>
     ensures { IfOk result (λ found. Kept (CanFollow text.now) kinds.now found.items) }
 {
@@ -26,7 +26,7 @@ fn kept(alloc: Global, text: &str, kinds: &[Token]) -> Result<Vec<Token>, AllocE
     Ok(found)
 }
 
-/// The kinds of tokens that can stand behind a text and a blank, in the order of [`Token`].
+/// The kinds of tokens that can stand after a text and a blank, in the order of [`Token`].
 ///
 /// A kind is among them exactly where some document begins with the text, a blank and a token of that kind. In a comment
 /// and in a string that is none; nor is there one where the text has a fault, or has brackets that are nested more than a
@@ -42,7 +42,7 @@ pub fn kinds_after(alloc: Global, text: &str) -> Result<Vec<Token>, AllocError>
 
 /// The kinds of tokens that can stand at an offset, in the order of [`Token`].
 ///
-/// They are those that can stand behind the text before the offset, of which a word is cut off first: the letters,
+/// They are those that can stand after the text before the offset, of which a word is cut off first: the letters,
 /// digits, `-` and `%` that touch the offset from the left. An offset past the text's end or within a character has none.
 pub fn kinds_at(alloc: Global, source: &str, offset: usize) -> Result<Vec<Token>, AllocError>
     ensures kinds { IfOk result (λ found. AreKindsAt source.now offset found.items) }

@@ -63,14 +63,14 @@ fn ends_in_use(text: &str) -> bool {
         return false;
     };
     let mut is_inside = false;
-    let mut is_behind_dot = false;
+    let mut is_after_dot = false;
     while let Some((item, _)) = lexer.next() {
         match item {
-            Ok(Token::OpenBrace) => is_inside = is_behind_dot,
+            Ok(Token::OpenBrace) => is_inside = is_after_dot,
             Ok(Token::CloseBrace) => is_inside = false,
             _ => {}
         }
-        is_behind_dot = matches!(item, Ok(Token::Dot));
+        is_after_dot = matches!(item, Ok(Token::Dot));
     }
     is_inside
 }
@@ -166,7 +166,7 @@ fn no_names(alloc: Global) -> Result<Found, AllocError> {
     })
 }
 
-/// The names that begin with a word and can stand behind a text, where an identifier can.
+/// The names that begin with a word and can stand after a text, where an identifier can.
 fn names_at_end(alloc: Global, text: &str, word: &str) -> Result<Found, AllocError> {
     let Some(closed) = close(alloc, text)? else {
         return no_names(alloc);
@@ -196,7 +196,7 @@ fn moved_back(alloc: Global, names: &[Candidate], by: usize) -> Result<Vec<Candi
     Ok(all)
 }
 
-/// The names that begin with a word and can stand behind a recovered text, with their places in the source.
+/// The names that begin with a word and can stand after a recovered text, with their places in the source.
 pub(crate) fn names_after(
     alloc: Global,
     recovered: &Recovered,
@@ -220,7 +220,7 @@ pub(crate) fn names_after(
 /// The names that can stand at an offset: those that an identifier there would be looked up as, each once, in the order
 /// of the text.
 ///
-/// At root they are those that are bound before; in a body its own, and those of the root; behind `x.` what `x` exports,
+/// At root they are those that are bound before; in a body its own, and those of the root; after `x.` what `x` exports,
 /// where the document declares it; and in the braces of a `use` the types of the interface. As for kinds, a word that
 /// touches the offset is cut off, and statements with a fault before the offset are blanked; there are none in one that
 /// has no end. Each name is looked up in a copy of the statement, and all copies are parsed at once: they have 2 MB

@@ -40,7 +40,7 @@ fn before(source: &str, offset: usize) -> Option<(&str, &str)> {
     Some((front.get(..start)?, front.get(start..)?))
 }
 
-/// Whether a text ends with the keyword of a directive, behind which a package gets its own name.
+/// Whether a text ends with the keyword of a directive, after which a package gets its own name.
 fn begins_directive(text: &str) -> bool {
     let Ok(mut lexer) = Lexer::new(text) else {
         return false;
@@ -52,7 +52,7 @@ fn begins_directive(text: &str) -> bool {
     is_keyword
 }
 
-/// The name or the path that can stand behind a text whose faulty statements are blanked.
+/// The name or the path that can stand after a text whose faulty statements are blanked.
 fn word_in<'t>(
     alloc: Global,
     text: &str,
@@ -75,7 +75,7 @@ fn word_in<'t>(
     }))
 }
 
-/// The name or the path that can stand behind a text.
+/// The name or the path that can stand after a text.
 fn word_after<'t>(
     alloc: Global,
     text: &str,
@@ -87,7 +87,7 @@ fn word_after<'t>(
     }
 }
 
-/// The name or the path that can stand behind the first colon of what is written, with no blank between them.
+/// The name or the path that can stand after the first colon of what is written, with no blank between them.
 fn word_after_colon<'t>(
     alloc: Global,
     front: &'t str,
@@ -103,11 +103,11 @@ fn word_after_colon<'t>(
 }
 
 /// What is written at an offset in bytes of the name of another package, or of a path: the letters, digits and signs of
-/// such names that touch the offset from the left. It is there if the name of a package or a path can stand behind the
+/// such names that touch the offset from the left. It is there if the name of a package or a path can stand after the
 /// text before it, of which faulty statements are blanked; where none can, that is asked of what follows its first colon,
-/// which may be one behind a name that is bound.
+/// which may be one after a name that is bound.
 ///
-/// `None` where none can, as in a comment, in a string, in a faulty statement that has no end and behind `package`, and
+/// `None` where none can, as in a comment, in a string, in a faulty statement that has no end and after `package`, and
 /// where the offset isn't between two characters. The error is that memory ran out.
 ///
 /// ```text

@@ -52,12 +52,12 @@ pub(crate) fn key_of_path(alloc: Global, path: &str) -> Result<Option<String>, A
     key_of(alloc, last_of(front), stem, None)
 }
 
-/// What is before the last `/` of a path, and what is behind it.
+/// What is before the last `/` of a path, and what is after it.
 fn split_last(path: &str) -> Option<(&str, &str)> {
     path.rsplit_once('/')
 }
 
-/// What is behind the last `/` of a path, if it has one; else the path.
+/// What is after the last `/` of a path, if it has one; else the path.
 fn last_of(path: &str) -> &str {
     match split_last(path) {
         Some((_, last)) => last,

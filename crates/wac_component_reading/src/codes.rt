@@ -1,7 +1,7 @@
 // Codes of the errors of components.
 use wac_components::ErrorKind;
 
-/// The code of a kind of error: the kebab form of its variant's name, behind `component`.
+/// The code of a kind of error: the kebab form of its variant's name, after `component`.
 pub(crate) fn component_code(kind: ErrorKind) -> &'static str {
     match kind {
         ErrorKind::UnexpectedEnd => "wac::component-unexpected-end",

@@ -75,8 +75,8 @@ unfolding read
 imports_export_none f [] = refl
 imports_export_none f (e ∷ es) = imports_export_none f es
 
-behind : (f : ℕ → Meaning) (pick : Slot → Option (List ℕ)) (cs ds : List (Slot × Option ItemKind)) (all : Named Seen) → read f pick cs ≡ [] → read f pick ds ≡ all → read f pick (cs ++ ds) ≡ all
-behind f pick cs ds all p q = read_append f pick cs ds ∙ ap (λ (l : Named Seen). l ++ read f pick ds) p ∙ q
+after : (f : ℕ → Meaning) (pick : Slot → Option (List ℕ)) (cs ds : List (Slot × Option ItemKind)) (all : Named Seen) → read f pick cs ≡ [] → read f pick ds ≡ all → read f pick (cs ++ ds) ≡ all
+after f pick cs ds all p q = read_append f pick cs ds ∙ ap (λ (l : Named Seen). l ++ read f pick ds) p ∙ q
 
 before : (f : ℕ → Meaning) (pick : Slot → Option (List ℕ)) (cs ds : List (Slot × Option ItemKind)) (all : Named Seen) → read f pick cs ≡ all → read f pick ds ≡ [] → read f pick (cs ++ ds) ≡ all
 before f pick cs ds all p q =
@@ -87,15 +87,15 @@ side_read : (f : ℕ → Meaning) (side : Side) (e : Entry) → IsSided e → re
 side_read f side (entries.Defined d) h = absurd h
 side_read f side (entries.Resource r) h = absurd h
 side_read f side (entries.Func g) h = absurd h
-side_read f sides.Imports (entries.Interface i) h = behind f slot_import (use_children i.uses.entries) (export_children i.exports.entries) [] (uses_import_none f i.uses.entries) (exports_import_none f i.exports.entries)
-side_read f sides.Exports (entries.Interface i) h = behind f slot_export (use_children i.uses.entries) (export_children i.exports.entries) (seen_items f (by_name i.exports.entries)) (uses_export_none f i.uses.entries) (exports_read f i.exports.entries)
+side_read f sides.Imports (entries.Interface i) h = after f slot_import (use_children i.uses.entries) (export_children i.exports.entries) [] (uses_import_none f i.uses.entries) (exports_import_none f i.exports.entries)
+side_read f sides.Exports (entries.Interface i) h = after f slot_export (use_children i.uses.entries) (export_children i.exports.entries) (seen_items f (by_name i.exports.entries)) (uses_export_none f i.uses.entries) (exports_read f i.exports.entries)
 side_read f sides.Imports (entries.World w) h =
     before f slot_import (use_children w.uses.entries ++ import_children w.imports.entries) (export_children w.exports.entries) (seen_items f (by_name w.imports.entries))
-    (behind f slot_import (use_children w.uses.entries) (import_children w.imports.entries) (seen_items f (by_name w.imports.entries)) (uses_import_none f w.uses.entries) (imports_read f w.imports.entries))
+    (after f slot_import (use_children w.uses.entries) (import_children w.imports.entries) (seen_items f (by_name w.imports.entries)) (uses_import_none f w.uses.entries) (imports_read f w.imports.entries))
     (exports_import_none f w.exports.entries)
 side_read f sides.Exports (entries.World w) h =
-    behind f slot_export (use_children w.uses.entries ++ import_children w.imports.entries) (export_children w.exports.entries) (seen_items f (by_name w.exports.entries))
-    (behind f slot_export (use_children w.uses.entries) (import_children w.imports.entries) [] (uses_export_none f w.uses.entries) (imports_export_none f w.imports.entries))
+    after f slot_export (use_children w.uses.entries ++ import_children w.imports.entries) (export_children w.exports.entries) (seen_items f (by_name w.exports.entries))
+    (after f slot_export (use_children w.uses.entries) (import_children w.imports.entries) [] (uses_export_none f w.uses.entries) (imports_export_none f w.imports.entries))
     (exports_read f w.exports.entries)
 
 -- what is offered is what is listed, each with what it fits

@@ -38,7 +38,7 @@ impl Pair {
     }
 }
 
-/// A pair that waits to be compared, and whether those that it needs are behind it in the list.
+/// A pair that waits to be compared, and whether those that it needs are after it in the list.
 #[derive(Clone, Copy)]
 struct Waiting {
     pair: Pair,
@@ -208,7 +208,7 @@ fn put(waiting: &mut Vec<Waiting>, pairs: &[Pair]) -> Result<(), AllocError> {
     Ok(())
 }
 
-/// Puts a pair into the list, and behind it those that it needs.
+/// Puts a pair into the list, and after it those that it needs.
 fn open(
     entries: &[Entry],
     found: &Found,
@@ -254,7 +254,7 @@ fn compare(entries: &[Entry], found: &mut Found, pair: Pair) -> Result<bool, All
     Ok(fits)
 }
 
-/// Compares the pair that waited last, or puts those that it needs behind it. `false` if it was compared and doesn't fit.
+/// Compares the pair that waited last, or puts those that it needs after it. `false` if it was compared and doesn't fit.
 fn compare_next(
     entries: &[Entry],
     found: &mut Found,

@@ -17,7 +17,7 @@ unread_first bs place end byte below within is =
     let rest : drop 1 (drop place (take end bs)) ≡ drop (place + 1) (take end bs) = drop-drop 1 place (take end bs) in
     cc (split, same, is, rest)
 
--- behind the first byte is what is unread from the next place on
+-- after the first byte is what is unread from the next place on
 pub unread_rest :
     (bs : List ℕ) (place end byte : ℕ) → drop place (take end bs) ≡ byte ∷ drop 1 (drop place (take end bs))
     → drop place (take end bs) ≡ byte ∷ drop (place + 1) (take end bs)
@@ -30,7 +30,7 @@ unread_length bs place end within =
     let long : length (take end bs) ≡ end = length-take-le end bs within in
     length-drop place (take end bs) ∙ ap (λ n. n - place) long
 
--- so many bytes of what is unread, and what is unread behind them
+-- so many bytes of what is unread, and what is unread after them
 pub unread_split :
     (bs : List ℕ) (place end count : ℕ) → place + count ≤ end → end ≤ length bs
     → drop place (take end bs) ≡ take count (drop place bs) ++ drop (place + count) (take end bs)

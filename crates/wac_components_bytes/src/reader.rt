@@ -8,7 +8,7 @@ use crate::error::{DecodeError, ErrorKind, error_at};
 
 /// A place in the bytes, the end of what may be read, and the work that is left.
 ///
-/// Each call either reads what it is named for, and is then behind it, or returns the error of its first wrong byte.
+/// Each call either reads what it is named for, and is then after it, or returns the error of its first wrong byte.
 /// After an error the place is somewhere in the bytes.
 #[derive(Drop)]
 pub struct Reader<'a> {

@@ -265,7 +265,7 @@ fn add_worlds(
     Ok(())
 }
 
-/// Adds a world, behind an empty line.
+/// Adds a world, after an empty line.
 fn add_world(
     writer: &mut Writer<'_>,
     text: &mut String,
@@ -350,7 +350,7 @@ fn is_taken(
     Ok(false)
 }
 
-/// The name of the component's own world: `root`, with as many `-world` behind it as no interface of its package has.
+/// The name of the component's own world: `root`, with as many `-world` after it as no interface of its package has.
 fn root_name(
     alloc: Global,
     steps: &mut Steps,

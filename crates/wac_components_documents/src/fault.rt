@@ -49,7 +49,7 @@ pub(crate) enum Reason {
 }
 
 impl Reason {
-    /// The text before a name, the name, and the text behind it.
+    /// The text before a name, the name, and the text after it.
     pub(crate) fn parts(self) -> (&'static str, Option<NameId>, &'static str) {
         match self {
             Reason::Name(name) => ("name `", Some(name), "`"),

@@ -106,7 +106,7 @@ impl<'d> Writer<'d> {
         self.others(scope)
     }
 
-    /// Writes what is used, then the types, then the functions, each behind that word.
+    /// Writes what is used, then the types, then the functions, each after that word.
     pub(crate) fn items(
         &mut self,
         word: &str,
@@ -228,7 +228,7 @@ impl<'d> Writer<'d> {
         self.settle(written, name)
     }
 
-    /// Writes the functions that are of no resource, each behind that word.
+    /// Writes the functions that are of no resource, each after that word.
     fn functions(&mut self, word: &str, scope: &Scope, members: &Members) -> Result<(), Fault> {
         for number in 0..members.others.len() {
             if let Some(place) = members.others.get(number).copied() {

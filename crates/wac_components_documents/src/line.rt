@@ -128,11 +128,11 @@ impl Line {
     }
 
     fn push_reason(&mut self, table: &Table, reason: Reason) -> Result<(), Fault> {
-        let (before, of, behind) = reason.parts();
+        let (before, of, after) = reason.parts();
         self.push(before)?;
         if let Some(of) = of {
             self.push_shown(table, of)?;
         }
-        self.push(behind)
+        self.push(after)
     }
 }

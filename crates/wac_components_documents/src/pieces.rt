@@ -249,12 +249,12 @@ impl Line {
         let (name, ty) = pair_at(table, parts, place)?;
         self.push_name(table, name)?;
         let next = Piece::Pairs(parts, place.saturating_add(1));
-        let behind = if place.saturating_add(1) < parts.count {
+        let after = if place.saturating_add(1) < parts.count {
             ", "
         } else {
             ""
         };
-        self.text_then(": ", &[Piece::Use(ty), Piece::Text(behind), next])
+        self.text_then(": ", &[Piece::Use(ty), Piece::Text(after), next])
     }
 
     /// Writes a type by its structure.

@@ -257,13 +257,13 @@ impl Line {
         }
     }
 
-    /// Writes the name that a function has in its resource, and what is behind it.
-    fn member_name(&mut self, table: &Table, name: NameId, behind: &str) -> Result<(), Fault> {
+    /// Writes the name that a function has in its resource, and what is after it.
+    fn member_name(&mut self, table: &Table, name: NameId, after: &str) -> Result<(), Fault> {
         match split_member(table.name(name)) {
             None => Err(Fault::Reason(Reason::Name(name))),
             Some((_, _, text)) => {
                 self.push_identifier(text, name)?;
-                self.push(behind)
+                self.push(after)
             }
         }
     }

@@ -147,11 +147,11 @@ impl Line {
         &mut self,
         before: &str,
         ty: TypeId,
-        behind: &str,
+        after: &str,
         view: View<'_>,
     ) -> Result<(), Fault> {
         self.push(before)?;
         self.write_type(ty, view)?;
-        self.push(behind)
+        self.push(after)
     }
 }

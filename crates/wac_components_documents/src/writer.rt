@@ -93,7 +93,7 @@ impl<'d> Writer<'d> {
         Ok(())
     }
 
-    /// Adds the line that was written to the text, behind that.
+    /// Adds the line that was written to the text, after that.
     fn end_line(&mut self, before: &str) -> Result<(), Fault> {
         self.begin_line()?;
         self.text.push_str(before)?;

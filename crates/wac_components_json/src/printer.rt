@@ -251,12 +251,12 @@ impl<'d> Printer<'d> {
         }
     }
 
-    /// One type behind a word.
+    /// One type after a word.
     fn wrapped(&mut self, text: &str, ty: Option<TypeId>, scope: usize) -> Result<(), JsonError> {
         self.text_then(text, &[Task::Type(ty, scope), Task::Text("}")])
     }
 
-    /// Parts behind a word.
+    /// Parts after a word.
     fn listed(
         &mut self,
         text: &str,

@@ -15,7 +15,7 @@ pub struct Path<'t> {
     pub version: Option<&'t str>,
 }
 
-/// What is before the first `@` of a text, and what is behind it, if there is one.
+/// What is before the first `@` of a text, and what is after it, if there is one.
 fn split_version(text: &str) -> (&str, Option<&str>)
     ensures { text.now ≡ versioned result.0.now result.1 }
 {

@@ -1,7 +1,7 @@
 //! Identifiers.
 ghost use Rattle.std.specs.Prelude.{◌≡◌, ◌↔◌, ◌++◌, IfOk, IsTrue, MatchOption, Ok, Some, codes, string_bytes};
 ghost use Rattle.wac_components_words.specs.Words.{HasNoIdentifier, IsIdentifierOf, IsOneToken, begins_with_percent};
-ghost use Rattle.wac_lexer.specs.Item.{handed};
+ghost use Rattle.wac_lexer.specs.Item.{next_token};
 ghost use Rattle.wac_lexer.specs.Reading.{left};
 ghost use Rattle.wac_lexer.specs.Span.{span};
 
@@ -25,7 +25,7 @@ pub fn is_token(text: &str, token: Token) -> bool
 
 /// Whether the next item of a lexer is a token of that kind at the start of its source, and of that length.
 fn begins_with(lexer: Lexer<'_>, token: Token, length: usize) -> bool
-    ensures { IsTrue result ↔ handed (left lexer.entry) ≡ Some (Ok token, span 0 length) }
+    ensures { IsTrue result ↔ next_token (left lexer.entry) ≡ Some (Ok token, span 0 length) }
 {
     match lexer.peek() {
         Some((Ok(found), place)) => is_same(found, token) && is_whole(place, length),
@@ -55,7 +55,7 @@ fn is_escaped(text: &str) -> bool
     matches!(text.as_bytes(), [b'%', ..])
 }
 
-/// The name behind `%`.
+/// The name after `%`.
 fn escaped(alloc: Global, name: &str) -> Result<String, AllocError>
     ensures { IfOk result (λ word. string_bytes word ≡ codes "%" ++ name.now) }
 {
@@ -64,7 +64,7 @@ fn escaped(alloc: Global, name: &str) -> Result<String, AllocError>
     Ok(word)
 }
 
-/// How a name is written: as it is, or behind `%` where it is a keyword. None where it isn't an identifier of WAC, as
+/// How a name is written: as it is, or after `%` where it is a keyword. None where it isn't an identifier of WAC, as
 /// one that begins with `%` itself.
 ///
 /// ```text

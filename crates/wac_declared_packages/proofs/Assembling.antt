@@ -30,14 +30,14 @@ grown_one (Ok x) old new e ok err = (e ∷ [], ok)
 grown_one (Err x) old new e ok err = grown_none old new err
 
 -- a table that has grown after one entry was added
-pub grown_behind : (old middle new : List Entry) (e : Entry) → middle ≡ old ++ e ∷ [] → IsGrown middle new → IsGrown old new
-grown_behind old middle new e added g =
+pub grown_after : (old middle new : List Entry) (e : Entry) → middle ≡ old ++ e ∷ [] → IsGrown middle new → IsGrown old new
+grown_after old middle new e added g =
     let assoc : (old ++ e ∷ []) ++ g.0 ≡ old ++ (e ∷ g.0) = simp append_assoc in
     (e ∷ g.0, g.1 ∙ ap (λ (l : List Entry). l ++ g.0) added ∙ assoc)
 
-get_behind : (old more : List Entry) (e : Entry) → slice_get ((old ++ e ∷ []) ++ more) (length old) ≡ Some e
-get_behind [] more e = refl
-get_behind (x ∷ old) more e = get_behind old more e
+get_after : (old more : List Entry) (e : Entry) → slice_get ((old ++ e ∷ []) ++ more) (length old) ≡ Some e
+get_after [] more e = refl
+get_after (x ∷ old) more e = get_after old more e
 
 abbrev imports_at : Option Entry → Named ItemKind
 imports_at o = elim (option_and_then as_world o) [ None ↦ [] | Some w ↦ by_name w.imports.entries ]
@@ -50,7 +50,7 @@ pub empty_stays : (old middle new : List Entry) (w : World) (at : ℕ) → middl
     → w.imports.entries ≡ [] → w.exports.entries ≡ [] → (world_imports new at ≡ []) × (world_exports new at ≡ [])
 empty_stays old middle new w at added number g imports exports =
     let is : slice_get new at ≡ Some (entries.World w)
-    = ap (slice_get new) number ∙ ap (λ (l : List Entry). slice_get l (length old)) (g.1 ∙ ap (λ (l : List Entry). l ++ g.0) added) ∙ get_behind old g.0 (entries.World w) in
+    = ap (slice_get new) number ∙ ap (λ (l : List Entry). slice_get l (length old)) (g.1 ∙ ap (λ (l : List Entry). l ++ g.0) added) ∙ get_after old g.0 (entries.World w) in
     (ap imports_at is ∙ ap by_name imports, ap exports_at is ∙ ap by_name exports)
 
 -- the package's world is the one that was chosen among its definitions

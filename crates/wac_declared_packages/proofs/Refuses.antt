@@ -14,11 +14,11 @@ unresolved packages d cause e breaks (inr memory) = inr memory
 
 unread : (packages : List (PackageKey × PackageParts)) (d : Document) (e : DeclarationError) → IsUnread d e → IsRefused packages d e
 unread packages d e (inl unfit) = inl unfit
-unread packages d e (inr told) = inr (told.0, inl (inr told.1))
+unread packages d e (inr error_is) = inr (error_is.0, inl (inr error_is.1))
 
 -- its key isn't read
 pub refused_unread : (packages : List (PackageKey × PackageParts)) (a b : CodeDocument) (e : DeclarationError) → a ≡ b → IsUnread (document_of a) e → IsRefused packages (document_of b) e
-refused_unread packages a b e same told = subst (λ (d : CodeDocument). IsRefused packages (document_of d) e) same (unread packages (document_of a) e told)
+refused_unread packages a b e same error_is = subst (λ (d : CodeDocument). IsRefused packages (document_of d) e) same (unread packages (document_of a) e error_is)
 
 -- it can't be resolved
 pub refused_unresolved : (packages : List (PackageKey × PackageParts)) (a b : CodeDocument) (e : DeclarationError) → a ≡ b → IsDeclaration (document_of b) → IsUnresolved packages (document_of a) e

@@ -8,10 +8,10 @@ use Rattle.wac_graph.specs.Graph.{Parts}
 use Rattle.wac_declared_packages.specs.Definitions.{AreExported, HasWorld}
 use Rattle.wac_ast_grammar.specs.Tree.{Document}
 use Rattle.wac_resolution_errors.specs.Error.{Reports}
-use Rattle.wac_resolution_errors.specs.Told.{told}
+use Rattle.wac_resolution_errors.specs.ErrorModel.{error_model}
 use Rattle.wac_resolution_errors.specs.declared.error.Error.{Error as ResolutionError}
 use Rattle.wac_resolution_rules.specs.Given.{Rules}
-use Rattle.wac_resolution_rules.specs.ResolvedDocument.{Describes, EveryNaming, FirstFailing, given_to}
+use Rattle.wac_resolution_rules.specs.ResolvedDocument.{Describes, EveryNumbering, FirstFailing, given_to}
 use Rattle.wac_resolution_state.specs.Nodes.{composition_of}
 use Rattle.wac_resolution.specs.Resolved.{by_key}
 use Rattle.wac_declared_packages.specs.declared.error.DeclarationError.{DeclarationError}
@@ -22,11 +22,11 @@ use Rattle.wac_declared_packages.specs.Refusing.{IsDeclaration, IsMemory, IsUnma
 abbrev pub no_rules : Rules
 no_rules = record { passes = λ _ _. None; named = λ _. None }
 
--- with these packages the document has the graph's composition, whatever the naming of origins
+-- with these packages the document has the graph's composition, whatever the numbering of origins
 abbrev pub IsGraphOf : List (PackageKey × PackageParts) → Document → Parts → Type 0
 IsGraphOf packages d g = (declared : Named ℕ)
-    × EveryNaming (λ naming. Describes (given_to naming (by_key packages) no_rules d) d
-    (composition_of naming g declared))
+    × EveryNumbering (λ numbering. Describes (given_to numbering (by_key packages) no_rules d) d
+    (composition_of numbering g declared))
 
 -- the package has what the document's graph exports, and its world is the one of that name, or the only one
 pub record IsDeclaredBy (packages : List (PackageKey × PackageParts)) (d : Document) (world : Option (List ℕ))
@@ -39,10 +39,10 @@ pub record IsDeclaredBy (packages : List (PackageKey × PackageParts)) (d : Docu
 
 -- ---- why it declares none
 
--- the first of the document's statements that fails with these packages breaks the rule, whatever the naming of origins
+-- the first of the document's statements that fails with these packages breaks the rule, whatever the numbering of origins
 abbrev pub Breaks : List (PackageKey × PackageParts) → Document → ResolutionError → Type 0
-Breaks packages d cause = EveryNaming
-    (λ naming. Reports (told cause) (FirstFailing (given_to naming (by_key packages) no_rules d) d (told cause)))
+Breaks packages d cause = EveryNumbering
+    (λ numbering. Reports (error_model cause) (FirstFailing (given_to numbering (by_key packages) no_rules d) d (error_model cause)))
 
 -- the error has the rule that the document breaks, unless memory ran out
 abbrev pub IsUnresolved : List (PackageKey × PackageParts) → Document → DeclarationError → Type 0

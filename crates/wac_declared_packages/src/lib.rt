@@ -7,7 +7,7 @@
 //! ```
 //!
 //! [`declared_package`] makes the package that one document declares, and [`declared_packages`] those of many, in any
-//! order; [`declare_all`] goes on behind an error. `docs/PACKAGES.md` says what such documents are, and how to go from
+//! order; [`declare_all`] goes on after an error. `docs/PACKAGES.md` says what such documents are, and how to go from
 //! WIT to them. [`package_of`] makes a package of the definitions of a graph, and [`copied_package`] one of another.
 #![tactic(auto)]
 

@@ -5,7 +5,7 @@ use Rattle.std.specs.Char.{encode_utf8}
 use Rattle.std.specs.Str.{chars, IsUtf8}
 use Rattle.std.proofs.lemmas.Str.{chars_past_char, chars-nil}
 
--- one more character, behind what was written
+-- one more character, after what was written
 pub character_more : (f : ℕ → List ℕ) (out all bs rest : List ℕ) (c : ℕ) → IsUtf8 bs → bs ≡ encode_utf8 c ++ rest → out ++ flat_map f (chars bs) ≡ all → (out ++ f c) ++ flat_map f (chars rest) ≡ all
 character_more f out all bs rest c utf8 begins e =
     append_assoc out (f c) (flat_map f (chars rest))

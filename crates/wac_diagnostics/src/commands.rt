@@ -15,7 +15,7 @@ use wac_positions::Lines;
 /// ::error file=app.wac,line=2,col=9,endLine=2,endColumn=10,title=wac%3A%3Aundefined-name::undefined name `y`
 /// ```
 ///
-/// Lines and columns are counted from 1, and columns in characters; `endColumn` is behind the last character. Without a
+/// Lines and columns are counted from 1, and columns in characters; `endColumn` is after the last character. Without a
 /// place there is neither line nor column. What can be done and the other places follow in lines of the message. The
 /// error is that memory ran out.
 pub fn github(
@@ -31,7 +31,7 @@ pub fn github(
     Ok(out)
 }
 
-/// Appends what stands behind the first two colons.
+/// Appends what stands after the first two colons.
 fn push_command(
     out: &mut String,
     lines: &Lines<'_>,

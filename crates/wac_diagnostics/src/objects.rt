@@ -15,7 +15,7 @@ use wac_positions::Lines;
 /// "code":"wac::undefined-name","message":"undefined name `y`","help":null,"notes":[]}
 /// ```
 ///
-/// Offsets and lengths are in bytes, lines and columns are counted from 1, and columns in characters; `end` is behind
+/// Offsets and lengths are in bytes, lines and columns are counted from 1, and columns in characters; `end` is after
 /// the last character. A note has `message`, `offset`, `length`, `line` and `column`. The error is that memory ran out.
 pub fn json(
     alloc: Global,
@@ -31,7 +31,7 @@ pub fn json(
     Ok(out)
 }
 
-/// Appends what stands behind the name of the file, to the end of the object.
+/// Appends what stands after the name of the file, to the end of the object.
 fn push_fields(
     alloc: Global,
     out: &mut String,

@@ -83,7 +83,7 @@ impl Page<'_, '_> {
         out.push_str(self.end())
     }
 
-    /// Appends what comes behind a label.
+    /// Appends what comes after a label.
     fn push_message(&self, out: &mut String, message: &str) -> Result<(), AllocError> {
         out.push_str(": ")?;
         push_shown(out, message)?;

@@ -3,7 +3,7 @@ use wac_lexer::SourceSpan;
 use wac_positions::{ColumnUnit, Lines, Place};
 
 /// The lines and columns at which a span begins and ends. They are counted from 1, and columns in characters; the end
-/// is the column behind the last character.
+/// is the column after the last character.
 #[derive(Clone, Copy)]
 pub(crate) struct Extent {
     pub(crate) line: usize,

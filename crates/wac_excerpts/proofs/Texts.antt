@@ -6,7 +6,7 @@ use Rattle.std.specs.Str.{IsUtf8}
 use Rattle.std.proofs.lemmas.Str.{chars_past_char, chars-nil}
 use Rattle.wac_excerpts.specs.Characters.{shown, shown_text}
 
--- one more character, behind what was written
+-- one more character, after what was written
 pub shown_more : (out all bs rest : List ℕ) (c : ℕ) → IsUtf8 bs → bs ≡ encode_utf8 c ++ rest → out ++ shown_text bs ≡ all → (out ++ encode_utf8 (shown c)) ++ shown_text rest ≡ all
 shown_more out all bs rest c utf8 begins e =
     append_assoc out (encode_utf8 (shown c)) (shown_text rest)

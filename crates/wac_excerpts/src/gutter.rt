@@ -26,7 +26,7 @@ impl Paint {
         }
     }
 
-    /// What it is told behind a part in colour.
+    /// What it is told after a part in colour.
     pub fn end(self) -> &'static str {
         match self {
             Paint::Plain => "",
@@ -67,7 +67,7 @@ impl Gutter {
         }
     }
 
-    /// How many columns it takes, with the blank behind the bar.
+    /// How many columns it takes, with the blank after the bar.
     pub(crate) fn columns(&self) -> usize {
         self.digits.saturating_add(3)
     }

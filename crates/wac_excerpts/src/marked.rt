@@ -30,7 +30,7 @@ fn columns_before(line: &str, offset: usize) -> usize {
 }
 
 impl MarkedLine<'_> {
-    /// Appends the line behind its number, and the marks below it.
+    /// Appends the line after its number, and the marks below it.
     pub(crate) fn push(
         &self,
         out: &mut String,

@@ -21,7 +21,7 @@ struct Region<'l, 'a> {
     gutter: Gutter,
 }
 
-/// Shows `len` bytes of a text from `offset` on: each of their lines behind its number, and marks below the bytes.
+/// Shows `len` bytes of a text from `offset` on: each of their lines after its number, and marks below the bytes.
 ///
 /// ```text
 /// 2 | let x = y;
@@ -82,7 +82,7 @@ impl Region<'_, '_> {
         Ok(())
     }
 
-    /// A line, and what is marked of it: of lines before the last one all up to the blanks at the end, of those behind
+    /// A line, and what is marked of it: of lines before the last one all up to the blanks at the end, of those after
     /// the first one all from the first character on that isn't blank.
     fn marked(&self, number: usize) -> MarkedLine<'_> {
         let line = self.lines.line(number);

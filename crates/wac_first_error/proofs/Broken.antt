@@ -8,14 +8,14 @@ use Rattle.wac_graph.specs.declared.package_key.PackageKey.{PackageKey}
 use Rattle.wac_resolution.specs.Resolved.{Resolved}
 use Rattle.wac_resolution.specs.Resolves.{Resolves}
 use Rattle.wac_resolution_errors.specs.Error.{NamesRule}
-use Rattle.wac_resolution_errors.specs.Told.{told}
+use Rattle.wac_resolution_errors.specs.ErrorModel.{error_model}
 use Rattle.wac_resolution_errors.specs.declared.error.Error.{Error}
 use Rattle.wac_resolution_errors.specs.declared.error.Error.TheVariants as errors
 use Rattle.wac_resolution_state.specs.Nodes.{composition_of}
 use Rattle.wac_tool_graphs.specs.Alone.{BreaksRule, IsComposition, same_rules}
 
 -- an error that isn't out of memory names a rule
-memory_or_rule : (e : Error) → (e ≡ errors.Memory alloc_error) ⊎ NamesRule (told e)
+memory_or_rule : (e : Error) → (e ≡ errors.Memory alloc_error) ⊎ NamesRule (error_model e)
 memory_or_rule (errors.Memory a) = inl refl
 memory_or_rule _ = inr (λ h. cc h)
 
@@ -24,11 +24,11 @@ pub composes : (packages : List (PackageKey × PackageParts)) (document : Docume
     → Resolves packages same_rules document (Ok r) → IsComposition (document_of document)
 composes packages document r none resolves =
     let alone : Resolves [] same_rules document (Ok r) = subst (λ ps. Resolves ps same_rules document (Ok r)) none resolves in
-    λ naming one. (composition_of naming r.graph alone.graph.0, alone.graph.1 naming one)
+    λ numbering one. (composition_of numbering r.graph alone.graph.0, alone.graph.1 numbering one)
 
 -- an error names the first rule that the document breaks, unless memory ran out
 pub breaks : (packages : List (PackageKey × PackageParts)) (document : Document) (e : Error) → packages ≡ []
-    → Resolves packages same_rules document (Err e) → (e ≡ errors.Memory alloc_error) ⊎ BreaksRule (document_of document) (told e)
+    → Resolves packages same_rules document (Err e) → (e ≡ errors.Memory alloc_error) ⊎ BreaksRule (document_of document) (error_model e)
 breaks packages document e none resolves =
     let alone : Resolves [] same_rules document (Err e) = subst (λ ps. Resolves ps same_rules document (Err e)) none resolves in
-    ⊎_elim (λ m. inl m) (λ names. inr (names, λ naming one. ⊎_elim (λ m. absurd (names m)) (λ x. x) (alone.first [] naming one))) (memory_or_rule e)
+    ⊎_elim (λ m. inl m) (λ names. inr (names, λ numbering one. ⊎_elim (λ m. absurd (names m)) (λ x. x) (alone.first [] numbering one))) (memory_or_rule e)

@@ -6,7 +6,7 @@ use Rattle.wac_ast_grammar.specs.TextTree.{IsTreeOf}
 use Rattle.wac_ast.specs.Document.{ErrorOf}
 use Rattle.wac_ast_base.specs.Error.{Told, no_memory}
 use Rattle.wac_comments_layout.specs.Nesting.{too_deep}
-use Rattle.wac_resolution_errors.specs.Told.{told}
+use Rattle.wac_resolution_errors.specs.ErrorModel.{error_model}
 use Rattle.wac_resolution_errors.specs.declared.error.Error.{Error}
 use Rattle.wac_resolution_errors.specs.declared.error.Error.TheVariants as errors
 use Rattle.wac_first_error.specs.Mentioned.{mentions_foreign}
@@ -65,7 +65,7 @@ IsResolved tree resolve (findings.Rejected d) = IsBroken resolve d tree
 abbrev pub IsRule : Error → Finding → Type 0
 IsRule e findings.Document = ⊥
 IsRule e findings.Unresolved = ⊥
-IsRule e (findings.Rejected d) = (e ≢ errors.Memory alloc_error) × IsOfResolving (told e) d
+IsRule e (findings.Rejected d) = (e ≢ errors.Memory alloc_error) × IsOfResolving (error_model e) d
 
 -- ---- what a text is found to be
 

@@ -1,13 +1,13 @@
 //! Codes of the errors of resolving.
 ghost use Rattle.std.specs.Prelude.{◌≡◌};
-ghost use Rattle.wac_resolution_errors.specs.Told.{told};
+ghost use Rattle.wac_resolution_errors.specs.ErrorModel.{error_model};
 ghost use Rattle.wac_first_error.specs.Codes.{resolution_code};
 
 use wac_resolution_errors::Error;
 
 /// The code of an error of resolving: the kebab form of its variant's name.
 pub fn resolution_code(error: &Error) -> &'static str
-    ensures { result.now ≡ resolution_code (told error.now) }
+    ensures { result.now ≡ resolution_code (error_model error.now) }
 {
     match error {
         Error::UndefinedName { .. } => "wac::undefined-name",

@@ -1,6 +1,6 @@
 //! Diagnostics of the errors of resolving.
 ghost use Rattle.std.specs.Prelude.{◌≢◌, IfOk, alloc_error};
-ghost use Rattle.wac_resolution_errors.specs.Told.{told};
+ghost use Rattle.wac_resolution_errors.specs.ErrorModel.{error_model};
 ghost use Rattle.wac_resolution_errors.specs.declared.error.Error.TheVariants.{Memory};
 ghost use Rattle.wac_first_error.specs.Diagnostics.{IsOfResolving};
 
@@ -13,7 +13,7 @@ use wac_resolution_errors::Error;
 /// What is said of a document that breaks a rule, with its help and the earlier place that it tells of. The error is
 /// that memory ran out, also where the document's error says so.
 pub fn resolution_diagnostic(alloc: Global, error: &Error) -> Result<Diagnostic, AllocError>
-    ensures says { IfOk result (λ diagnostic. IsOfResolving (told error.now) diagnostic) }
+    ensures says { IfOk result (λ diagnostic. IsOfResolving (error_model error.now) diagnostic) }
     ensures memory { IfOk result (λ diagnostic. error.now ≢ Memory alloc_error) }
 {
     if let Error::Memory(_) = error {

@@ -1,7 +1,7 @@
 //! Resolving a document for its errors alone.
 ghost use Rattle.std.specs.Prelude.{◌≡◌, ◌⊎◌, IfErr, IfOk, alloc_error};
 ghost use Rattle.wac_ast.specs.Statements.{document_of};
-ghost use Rattle.wac_resolution_errors.specs.Told.{told};
+ghost use Rattle.wac_resolution_errors.specs.ErrorModel.{error_model};
 ghost use Rattle.wac_resolution_errors.specs.declared.error.Error.TheVariants.{Memory};
 ghost use Rattle.wac_tool_graphs.specs.Alone.{BreaksRule, IsComposition};
 ghost use Rattle.wac_first_error.specs.Mentioned.{mentions_foreign};
@@ -26,7 +26,8 @@ pub(crate) fn broken_rule(alloc: Global, page: Page<'_, '_>) -> ResolutionResult
     // It describes a composition.
     ensures composes { IfOk result (λ _. IsComposition (document_of page.entry)) }
     // The error names the first rule that it breaks.
-    ensures breaks { IfErr result (λ e. (e ≡ Memory alloc_error) ⊎ BreaksRule (document_of page.entry) (told e)) }
+    ensures breaks { IfErr result (λ e. (e ≡ Memory alloc_error)
+        ⊎ BreaksRule (document_of page.entry) (error_model e)) }
 {
     let Page { document } = page;
     match resolve(

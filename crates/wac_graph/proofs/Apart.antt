@@ -1,10 +1,10 @@
--- Under a one-to-one naming resources have different origins.
+-- Under a one-to-one numbering resources have different origins.
 use Rattle.wac_graph.proofs.Common.{◌≡◌, ◌∙◌, ◌+◌, ◌-◌, ◌<◌, ◌≤◌, ℕ, zero, suc, List, [], ◌∷◌, Option, Some, None, Bool, true, false, ◌⊎◌, inl, inr, ◌&&◌, cond, refl, sym, ap, subst, take, arith, slice_get, nat_le, nat_lt, nat_tests, Entry, IsResource}
 use Rattle.wac_graph_types.specs.declared.entry.Entry.TheVariants as entries
 use Rattle.wac_graph_types.specs.Meaning as meanings
 use Rattle.wac_graph.specs.Graph.{Parts}
 use Rattle.wac_graph.specs.Package.{HeldPackage}
-use Rattle.wac_graph.specs.Origin.{Origin, Naming, IsOneToOne, declared, copied}
+use Rattle.wac_graph.specs.Origin.{Origin, Numbering, IsOneToOne, declared, copied}
 use Rattle.wac_graph.specs.Means.{copied_at, own_from, own_resources, origin_in, or_declared, resources_in, OriginsApart}
 use Rattle.wac_graph.specs.Sound.{Differ, IsSound}
 
@@ -12,7 +12,7 @@ pub record CopiedFrom (ps : List HeldPackage) (i : ℕ) (o : Origin) : Type 0 wh
   pub place : ℕ
   pub from : HeldPackage
   pub held : slice_get ps place ≡ Some from
-  pub behind : from.first ≤ i
+  pub after : from.first ≤ i
   pub is : o ≡ copied from.key (i - from.first)
 
 copied_from : (ps : List HeldPackage) (i : ℕ) (o : Origin) → copied_at ps i ≡ Some o → CopiedFrom ps i o
@@ -24,9 +24,9 @@ copied_from (p ∷ ps) i o h = go (copied_from ps i o) (nat_le p.first i) (nat_l
     below h = grind (arith, nat_tests)
 
     go : (copied_at ps i ≡ Some o → CopiedFrom ps i o) → (a b : Bool) → nat_le p.first i ≡ a → cond (a && b) (Some (copied p.key (i - p.first))) (copied_at ps i) ≡ Some o → CopiedFrom (p ∷ ps) i o
-    go later true true e h = record { place = 0; from = p; held = refl; behind = below e; is = cc }
-    go later true false e h = (let r = later h in record { place = suc r.place; from = r.from; held = r.held; behind = r.behind; is = r.is })
-    go later false b e h = (let r = later h in record { place = suc r.place; from = r.from; held = r.held; behind = r.behind; is = r.is })
+    go later true true e h = record { place = 0; from = p; held = refl; after = below e; is = cc }
+    go later true false e h = (let r = later h in record { place = suc r.place; from = r.from; held = r.held; after = r.after; is = r.is })
+    go later false b e h = (let r = later h in record { place = suc r.place; from = r.from; held = r.held; after = r.after; is = r.is })
 
 resource_counts : (e : Entry) → IsResource e → resources_in e ≡ 1
 resource_counts (entries.Defined d) h = absurd h
@@ -51,10 +51,10 @@ own_grows ps n (e ∷ es) (suc i) (suc j) d lt is res out =
     let later : own_from ps (suc n) (take i es) < own_from ps (suc n) (take j es) = own_grows ps (suc n) es i j d (omega arith) is res (subst (λ (m : ℕ). copied_at ps m ≡ None) at out) in
     omega (arith, later)
 
--- under a one-to-one naming no two resources of the table have one origin
-in_table_apart : (ps : List HeldPackage) (es : List Entry) (naming : Naming) → IsOneToOne naming → Differ (λ (p : HeldPackage). p.key) ps → meanings.IsOneToOne es (λ n. naming (origin_in ps es n))
+-- under a one-to-one numbering no two resources of the table have one origin
+in_table_apart : (ps : List HeldPackage) (es : List Entry) (numbering : Numbering) → IsOneToOne numbering → Differ (λ (p : HeldPackage). p.key) ps → meanings.IsOneToOne es (λ n. numbering (origin_in ps es n))
 unfolding origin_in
-in_table_apart ps es naming one apart i j d e at_i at_j res_i res_j same = go (copied_at ps i) (copied_at ps j) refl refl (one (or_declared (copied_at ps i) (own_from ps 0 (take i es))) (or_declared (copied_at ps j) (own_from ps 0 (take j es))) same)
+in_table_apart ps es numbering one apart i j d e at_i at_j res_i res_j same = go (copied_at ps i) (copied_at ps j) refl refl (one (or_declared (copied_at ps i) (own_from ps 0 (take i es))) (or_declared (copied_at ps j) (own_from ps 0 (take j es))) same)
   where
     zero_plus : (k : ℕ) → 0 + k ≡ k
     zero_plus k = omega arith
@@ -85,9 +85,9 @@ in_table_apart ps es naming one apart i j d e at_i at_j res_i res_j same = go (c
         let held : slice_get ps q.place ≡ Some r.from = subst (λ (m : ℕ). slice_get ps m ≡ Some r.from) place r.held in
         let from : Some r.from ≡ Some q.from = sym held ∙ q.held in
         let first : r.from.first ≡ q.from.first = (let h : r.from ≡ q.from = cc in ap (λ (p : HeldPackage). p.first) h) in
-        let low : r.from.first ≤ i = r.behind in
-        let high : q.from.first ≤ j = q.behind in
+        let low : r.from.first ≤ i = r.after in
+        let high : q.from.first ≤ j = q.after in
         omega arith
 
 pub origins_apart : (g : Parts) → IsSound g → OriginsApart g
-origins_apart g sound naming one = in_table_apart g.packages g.types naming one sound.keys
+origins_apart g sound numbering one = in_table_apart g.packages g.types numbering one sound.keys

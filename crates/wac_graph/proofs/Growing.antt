@@ -34,9 +34,9 @@ taken_length zero (e ∷ es) h = refl
 taken_length (suc k) [] h = absurd (omega arith)
 taken_length (suc k) (e ∷ es) h = ap suc (taken_length k es (omega arith))
 
-behind : (old ds : List Entry) (i : ℕ) → slice_get (old ++ ds) (length old + i) ≡ slice_get ds i
-behind [] ds i = (let e : 0 + i ≡ i = omega arith in ap (slice_get ds) e)
-behind (x ∷ old) ds i = (let e : length (x ∷ old) + i ≡ suc (length old + i) = omega arith in ap (slice_get ((x ∷ old) ++ ds)) e ∙ behind old ds i)
+after : (old ds : List Entry) (i : ℕ) → slice_get (old ++ ds) (length old + i) ≡ slice_get ds i
+after [] ds i = (let e : 0 + i ≡ i = omega arith in ap (slice_get ds) e)
+after (x ∷ old) ds i = (let e : length (x ∷ old) + i ≡ suc (length old + i) = omega arith in ap (slice_get ((x ∷ old) ++ ds)) e ∙ after old ds i)
 
 sort_of_copy : (n i : ℕ) (es ds : List Entry) (s : Sort) → AreCopies n es ds → option_map sort_of (slice_get es i) ≡ Some s → option_map sort_of (slice_get ds i) ≡ Some s
 sort_of_copy n i [] ds s h is = absurd (cc)
@@ -60,7 +60,7 @@ copy_named old es now k g names =
     by_id (Some i) b s =
         let len : length now ≡ length old + length es = ap length g.1 ∙ length-append old g.0 ∙ ap (λ (x : ℕ). length old + x) (copies_length (length old) es g.0 g.2) in (
           omega arith,
-          subst (λ (l : List Entry). option_map sort_of (slice_get l (length old + i)) ≡ Some (sort_named k)) (sym g.1) (ap (option_map sort_of) (behind old g.0 i) ∙ sort_of_copy (length old) i es g.0 (sort_named k) g.2 s),
+          subst (λ (l : List Entry). option_map sort_of (slice_get l (length old + i)) ≡ Some (sort_named k)) (sym g.1) (ap (option_map sort_of) (after old g.0 i) ∙ sort_of_copy (length old) i es g.0 (sort_named k) g.2 s),
         )
 
 get_taken : (k i : ℕ) (es : List Entry) → i < k → slice_get (take k es) i ≡ slice_get es i

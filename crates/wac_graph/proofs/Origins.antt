@@ -8,7 +8,7 @@ use Rattle.wac_graph_types.proofs.Meanings.{grown_under, meaning_at_entry, added
 use Rattle.wac_graph.specs.Package.{Key, HeldPackage, IsHeld, moved_package}
 use Rattle.wac_graph.specs.Graph.{Parts, with_entry, with_package}
 use Rattle.wac_graph.specs.Sound.{EachAt, IsSound}
-use Rattle.wac_graph.specs.Origin.{Origin, Naming, declared, copied}
+use Rattle.wac_graph.specs.Origin.{Origin, Numbering, declared, copied}
 use Rattle.wac_graph.specs.Means.{copied_at, own_from, own_resources, resources_in, or_declared, origin_in, declared_count, origin_at, entry_means_in, entry_means, means, KeepsKinds, MeansAdded, EntriesMean, CopiesMean}
 
 -- packages that end before a number
@@ -68,15 +68,15 @@ origin_added ps es e h =
     ap (λ (o : Option Origin). or_declared o (own_from ps 0 (take (length es) (es ++ e ∷ [])))) (outside ps (length es) (length es) h (omega arith))
     ∙ ap (λ (l : List Entry). declared (own_from ps 0 l)) (taken_front es (e ∷ []))
 
-pub keeps_more : (ps : List HeldPackage) (es fs : List Entry) (naming : Origin → ℕ) (k : ItemKind) → NamesBefore (length es) k → of_kind (entry_means_in naming ps (es ++ fs)) k ≡ of_kind (entry_means_in naming ps es) k
+pub keeps_more : (ps : List HeldPackage) (es fs : List Entry) (numbering : Origin → ℕ) (k : ItemKind) → NamesBefore (length es) k → of_kind (entry_means_in numbering ps (es ++ fs)) k ≡ of_kind (entry_means_in numbering ps es) k
 unfolding entry_means_in
-keeps_more ps es fs naming k h = grown_under (λ n. naming (origin_in ps es n)) (λ n. naming (origin_in ps (es ++ fs) n)) es fs k (λ i w. ap naming (origin_kept ps es fs i w)) h
+keeps_more ps es fs numbering k h = grown_under (λ n. numbering (origin_in ps es n)) (λ n. numbering (origin_in ps (es ++ fs) n)) es fs k (λ i w. ap numbering (origin_kept ps es fs i w)) h
 
 pub keeps_entry : (old new : Parts) (e : Entry) → new ≡ with_entry old e → KeepsKinds old new
-keeps_entry old new e is naming k h = ap (λ (g : Parts). means naming g k) is ∙ keeps_more old.packages old.types (e ∷ []) naming k h
+keeps_entry old new e is numbering k h = ap (λ (g : Parts). means numbering g k) is ∙ keeps_more old.packages old.types (e ∷ []) numbering k h
 
 pub keeps_unchanged : (old new : Parts) → new ≡ old → KeepsKinds old new
-keeps_unchanged old new is naming k h = ap (λ (g : Parts). means naming g k) is
+keeps_unchanged old new is numbering k h = ap (λ (g : Parts). means numbering g k) is
 
 earlier_children : (es : List Entry) (e : Entry) → EachKind (Names es) (children e) → ChildrenBefore (length es) (children e)
 earlier_children es e h = go (children e) h
@@ -91,21 +91,21 @@ earlier_children es e h = go (children e) h
 
 pub means_added : (old new : Parts) (e : Entry) → IsSound old → EachKind (Names old.types) (children e) → new ≡ with_entry old e → MeansAdded old new e
 unfolding entry_means_in
-means_added old new e sound here is naming =
+means_added old new e sound here is numbering =
     let es : List Entry = old.types in
     let ps : List HeldPackage = old.packages in
-    let o : ℕ → ℕ = λ n. naming (origin_in ps es n) in
-    let p : ℕ → ℕ = λ n. naming (origin_in ps (es ++ e ∷ []) n) in
-    ap (λ (g : Parts). entry_means naming g (length es)) is
-    ∙ added o p es e (λ i w. ap naming (origin_kept ps es (e ∷ []) i w)) sound.table.0 (earlier_children es e here)
-    ∙ ap (λ (x : Origin). node (label (naming x) e) (row (meaning_at o es) (children e))) (origin_added ps es e (held_within es ps sound.packages))
+    let o : ℕ → ℕ = λ n. numbering (origin_in ps es n) in
+    let p : ℕ → ℕ = λ n. numbering (origin_in ps (es ++ e ∷ []) n) in
+    ap (λ (g : Parts). entry_means numbering g (length es)) is
+    ∙ added o p es e (λ i w. ap numbering (origin_kept ps es (e ∷ []) i w)) sound.table.0 (earlier_children es e here)
+    ∙ ap (λ (x : Origin). node (label (numbering x) e) (row (meaning_at o es) (children e))) (origin_added ps es e (held_within es ps sound.packages))
 
 pub count_added : (old new : Parts) (e : Entry) → IsSound old → new ≡ with_entry old e → declared_count new ≡ declared_count old + resources_in e
 count_added old new e sound is = ap (λ (g : Parts). declared_count g) is ∙ own_added old.packages old.types e (held_within old.types old.packages sound.packages)
 
 pub entries_mean : (g : Parts) → IsSound g → EntriesMean g
 unfolding entry_means_in
-entries_mean g sound naming i e is = meaning_at_entry (λ n. naming (origin_in g.packages g.types n)) g.types i e sound.table.0 is
+entries_mean g sound numbering i e is = meaning_at_entry (λ n. numbering (origin_in g.packages g.types n)) g.types i e sound.table.0 is
 
 -- one more package
 
@@ -173,22 +173,22 @@ origin_copied ps q es j h w = ap (λ (o : Option Origin). or_declared o (own_fro
 
 pub keeps_package : (old new : Parts) (key : Key) (p : PackageParts) → IsGrown old.types new.types → new ≡ with_package old key p new.types → KeepsKinds old new
 unfolding entry_means_in
-keeps_package old new key p grown is naming k h =
+keeps_package old new key p grown is numbering k h =
     let q : HeldPackage = moved_package (length old.types) key p in
-    ap (λ (g : Parts). means naming g k) is
-    ∙ ap (λ (l : List Entry). meaning (λ n. naming (origin_in (old.packages ++ q ∷ []) l n)) l k) grown.1
-    ∙ grown_under (λ n. naming (origin_in old.packages old.types n)) (λ n. naming (origin_in (old.packages ++ q ∷ []) (old.types ++ grown.0) n)) old.types grown.0 k (λ i w. ap naming (origin_before old.packages q old.types grown.0 i refl w)) h
+    ap (λ (g : Parts). means numbering g k) is
+    ∙ ap (λ (l : List Entry). meaning (λ n. numbering (origin_in (old.packages ++ q ∷ []) l n)) l k) grown.1
+    ∙ grown_under (λ n. numbering (origin_in old.packages old.types n)) (λ n. numbering (origin_in (old.packages ++ q ∷ []) (old.types ++ grown.0) n)) old.types grown.0 k (λ i w. ap numbering (origin_before old.packages q old.types grown.0 i refl w)) h
 
 pub copies_mean : (old new : Parts) (key : Key) (p : PackageParts) → IsSound old → new ≡ with_package old key p new.types → MeansTheSame old.types p.types new.types → CopiesMean old new key p
 unfolding entry_means_in
-copies_mean old new key p sound is same naming k h =
+copies_mean old new key p sound is same numbering k h =
     let q : HeldPackage = moved_package (length old.types) key p in
-    let o : ℕ → ℕ = λ n. naming (origin_in (old.packages ++ q ∷ []) new.types n) in
+    let o : ℕ → ℕ = λ n. numbering (origin_in (old.packages ++ q ∷ []) new.types n) in
     let nil : p.types ++ [] ≡ p.types = simp append-nil in
-    ap (λ (g : Parts). means naming g (moved (length old.types) k)) is
+    ap (λ (g : Parts). means numbering g (moved (length old.types) k)) is
     ∙ same o k h
     ∙ ap (λ (l : List Entry). meaning (λ i. o (length old.types + i)) l k) (sym nil)
-    ∙ grown_under (λ i. naming (copied key i)) (λ i. o (length old.types + i)) p.types [] k (λ i w. ap naming (origin_copied old.packages q new.types i (held_within old.types old.packages sound.packages) w)) h
+    ∙ grown_under (λ i. numbering (copied key i)) (λ i. o (length old.types + i)) p.types [] k (λ i w. ap numbering (origin_copied old.packages q new.types i (held_within old.types old.packages sound.packages) w)) h
 
 pub count_package : (old new : Parts) (key : Key) (p : PackageParts) → IsSound old → IsGrownBy old.types p.types new.types → new ≡ with_package old key p new.types → declared_count new ≡ declared_count old
 count_package old new key p sound grown is =
@@ -201,16 +201,16 @@ count_package old new key p sound grown is =
 
 -- the table grows, and no package is added
 pub keeps_types : (old new : Parts) → IsGrown old.types new.types → new ≡ record old { types = new.types } → KeepsKinds old new
-keeps_types old new grown is naming k h =
-    ap (λ (g : Parts). means naming g k) (is ∙ ap (λ (l : List Entry). record old { types = l }) grown.1) ∙ keeps_more old.packages old.types grown.0 naming k h
+keeps_types old new grown is numbering k h =
+    ap (λ (g : Parts). means numbering g k) (is ∙ ap (λ (l : List Entry). record old { types = l }) grown.1) ∙ keeps_more old.packages old.types grown.0 numbering k h
 
 -- what the table has under a name is what the kind exports
-pub export_means : (naming : Naming) (g : Parts) (k : ItemKind) (name : List ℕ) (r : Option ItemKind) → IsSound g → Names g.types k → r ≡ look_up name (kind_exports g.types k)
-    → option_map (means naming g) r ≡ export_of (means naming g k) name
-export_means naming g k name r sound named is =
-    ap (option_map (means naming g)) is ∙ export_found (λ i. naming (origin_at g i)) g.types (entry_means naming g) (entries_mean g sound naming) k name named
+pub export_means : (numbering : Numbering) (g : Parts) (k : ItemKind) (name : List ℕ) (r : Option ItemKind) → IsSound g → Names g.types k → r ≡ look_up name (kind_exports g.types k)
+    → option_map (means numbering g) r ≡ export_of (means numbering g k) name
+export_means numbering g k name r sound named is =
+    ap (option_map (means numbering g)) is ∙ export_found (λ i. numbering (origin_at g i)) g.types (entry_means numbering g) (entries_mean g sound numbering) k name named
 
--- a kind's meaning under a naming is that of the table under the numbers of its origins
-pub means_is : (naming : Naming) (g : Parts) (k : ItemKind) → means naming g k ≡ meaning (λ i. naming (origin_at g i)) g.types k
+-- a kind's meaning under a numbering is that of the table under the numbers of its origins
+pub means_is : (numbering : Numbering) (g : Parts) (k : ItemKind) → means numbering g k ≡ meaning (λ i. numbering (origin_at g i)) g.types k
 unfolding entry_means_in
-means_is naming g k = refl
+means_is numbering g k = refl

@@ -16,21 +16,21 @@ use Rattle.wac_graph.specs.Node.{Node}
 use Rattle.wac_graph.specs.Graph.{Parts, with_package, with_name, with_argument, package_of, arguments_of, export_kind, import_kind, parameter_kind}
 use Rattle.wac_graph.specs.Kept.{Keeps, KeepsAliases}
 use Rattle.wac_graph.specs.Means.{entry_means, EntriesMean}
-use Rattle.wac_graph.specs.Origin.{Naming}
+use Rattle.wac_graph.specs.Origin.{Numbering}
 
 -- ---- what an interface or a world exports and imports, in the table's order, is what its meaning does
 
-abbrev pub MeansInterfaceExports : Parts → Naming → InterfaceId → Type 0
-MeansInterfaceExports g naming id = EntriesMean g → Names g.types (kinds.Instance id)
-    → exports_of (entry_means naming g id.0) ≡ items_mean (entry_means naming g) (interface_exports g.types id.0)
+abbrev pub MeansInterfaceExports : Parts → Numbering → InterfaceId → Type 0
+MeansInterfaceExports g numbering id = EntriesMean g → Names g.types (kinds.Instance id)
+    → exports_of (entry_means numbering g id.0) ≡ items_mean (entry_means numbering g) (interface_exports g.types id.0)
 
-abbrev pub MeansWorldExports : Parts → Naming → WorldId → Type 0
-MeansWorldExports g naming id = EntriesMean g → Names g.types (kinds.Component id)
-    → exports_of (entry_means naming g id.0) ≡ items_mean (entry_means naming g) (world_exports g.types id.0)
+abbrev pub MeansWorldExports : Parts → Numbering → WorldId → Type 0
+MeansWorldExports g numbering id = EntriesMean g → Names g.types (kinds.Component id)
+    → exports_of (entry_means numbering g id.0) ≡ items_mean (entry_means numbering g) (world_exports g.types id.0)
 
-abbrev pub MeansWorldImports : Parts → Naming → WorldId → Type 0
-MeansWorldImports g naming id = EntriesMean g → Names g.types (kinds.Component id)
-    → imports_of (entry_means naming g id.0) ≡ items_mean (entry_means naming g) (world_imports g.types id.0)
+abbrev pub MeansWorldImports : Parts → Numbering → WorldId → Type 0
+MeansWorldImports g numbering id = EntriesMean g → Names g.types (kinds.Component id)
+    → imports_of (entry_means numbering g id.0) ≡ items_mean (entry_means numbering g) (world_imports g.types id.0)
 
 -- ---- what is read after a step
 

@@ -11,7 +11,7 @@ use Rattle.wac_graph_types.specs.Shape.{export_of}
 use Rattle.wac_graph.specs.Package.{Key, HeldPackage}
 use Rattle.wac_graph.specs.Moved.{moved}
 use Rattle.wac_graph.specs.Graph.{Parts}
-use Rattle.wac_graph.specs.Origin.{Origin, Naming, IsOneToOne, declared, copied}
+use Rattle.wac_graph.specs.Origin.{Origin, Numbering, IsOneToOne, declared, copied}
 
 -- where entry i comes from, if it was copied from a package
 unfoldable pub copied_at : List HeldPackage → ℕ → Option Origin
@@ -47,38 +47,38 @@ origin_at g i = origin_in g.packages g.types i
 abbrev pub declared_count : Parts → ℕ
 declared_count g = own_from g.packages 0 g.types
 
--- what entry i means, under a naming of origins
-unfoldable pub entry_means_in : Naming → List HeldPackage → List Entry → ℕ → Meaning
-entry_means_in naming ps es i = meaning_at (λ n. naming (origin_in ps es n)) es i
+-- what entry i means, under a numbering of origins
+unfoldable pub entry_means_in : Numbering → List HeldPackage → List Entry → ℕ → Meaning
+entry_means_in numbering ps es i = meaning_at (λ n. numbering (origin_in ps es n)) es i
 
-abbrev pub entry_means : Naming → Parts → ℕ → Meaning
-entry_means naming g i = entry_means_in naming g.packages g.types i
+abbrev pub entry_means : Numbering → Parts → ℕ → Meaning
+entry_means numbering g i = entry_means_in numbering g.packages g.types i
 
--- what a kind means, under a naming of origins
-abbrev pub means : Naming → Parts → ItemKind → Meaning
-means naming g k = of_kind (entry_means naming g) k
+-- what a kind means, under a numbering of origins
+abbrev pub means : Numbering → Parts → ItemKind → Meaning
+means numbering g k = of_kind (entry_means numbering g) k
 
 -- what was found under a name means what the kind's meaning exports under it
 abbrev pub MeansExport : Parts → ItemKind → List ℕ → Option ItemKind → Type 0
-MeansExport g k name found = (naming : Naming)
-    → option_map (means naming g) found ≡ export_of (means naming g k) name
+MeansExport g k name found = (numbering : Numbering)
+    → option_map (means numbering g) found ≡ export_of (means numbering g k) name
 
 -- each kind of the old graph means in the new one what it meant
 abbrev pub KeepsKinds : Parts → Parts → Type 0
-KeepsKinds old new = (naming : Naming) (k : ItemKind) → NamesBefore (length old.types) k → means naming new k ≡ means naming old k
+KeepsKinds old new = (numbering : Numbering) (k : ItemKind) → NamesBefore (length old.types) k → means numbering new k ≡ means numbering old k
 
 -- the entry that was added last means its label, over what its kinds meant before
 abbrev pub MeansAdded : Parts → Parts → Entry → Type 0
-MeansAdded old new e = (naming : Naming) → entry_means naming new (length old.types) ≡ node (label (naming (declared (declared_count old))) e) (row (entry_means naming old) (children e))
+MeansAdded old new e = (numbering : Numbering) → entry_means numbering new (length old.types) ≡ node (label (numbering (declared (declared_count old))) e) (row (entry_means numbering old) (children e))
 
 -- each entry means its label, over the meanings of what it names
 abbrev pub EntriesMean : Parts → Type 0
-EntriesMean g = (naming : Naming) (i : ℕ) (e : Entry) → slice_get g.types i ≡ Some e → entry_means naming g i ≡ node (label (naming (origin_at g i)) e) (row (entry_means naming g) (children e))
+EntriesMean g = (numbering : Numbering) (i : ℕ) (e : Entry) → slice_get g.types i ≡ Some e → entry_means numbering g i ≡ node (label (numbering (origin_at g i)) e) (row (entry_means numbering g) (children e))
 
 -- what a kind of the package means, its copy means
 abbrev pub CopiesMean : Parts → Parts → Key → PackageParts → Type 0
-CopiesMean old new key p = (naming : Naming) (k : ItemKind) → NamesBefore (length p.types) k → means naming new (moved (length old.types) k) ≡ meaning (λ i. naming (copied key i)) p.types k
+CopiesMean old new key p = (numbering : Numbering) (k : ItemKind) → NamesBefore (length p.types) k → means numbering new (moved (length old.types) k) ≡ meaning (λ i. numbering (copied key i)) p.types k
 
--- under a naming that is one to one no two resources of the table have one number
+-- under a numbering that is one to one no two resources of the table have one number
 abbrev pub OriginsApart : Parts → Type 0
-OriginsApart g = (naming : Naming) → IsOneToOne naming → tables.IsOneToOne g.types (λ i. naming (origin_at g i))
+OriginsApart g = (numbering : Numbering) → IsOneToOne numbering → tables.IsOneToOne g.types (λ i. numbering (origin_at g i))

@@ -9,18 +9,18 @@ ghost use Rattle.wac_graph.specs.Graph.{Parts, with_entry, with_import, with_def
 ghost use Rattle.wac_graph.specs.Kept.{Keeps, KeepsArguments, KeepsAliases};
 ghost use Rattle.wac_graph.specs.Laws.{MeansInterfaceExports, MeansWorldExports, MeansWorldImports, KeepsWithPackage, NameIsRead, ArgumentIsRead, OthersStay, OtherNodesStay, AliasesStay, ImportsAsPackage, ExportsAsKind};
 ghost use Rattle.wac_graph.specs.Means.{KeepsKinds};
-ghost use Rattle.wac_graph.specs.Origin.{Naming, IsOneToOne, numbered};
+ghost use Rattle.wac_graph.specs.Origin.{Numbering, IsOneToOne, numbered};
 ghost use Rattle.wac_graph.specs.Package.{Key, HeldPackage, IsHeld, same_key};
 ghost use Rattle.wac_graph.specs.Packages.{KeepsContents};
 
 /// What interfaces and worlds export and import, in the table's order, is what their meanings do.
 pub fn tables_mean()
-    ensures interfaces { (g : Parts) (naming : Naming) (id : AnInterface) → MeansInterfaceExports g naming id }
-    ensures worlds { (g : Parts) (naming : Naming) (id : AWorld) → MeansWorldExports g naming id }
-    ensures imports { (g : Parts) (naming : Naming) (id : AWorld) → MeansWorldImports g naming id }
+    ensures interfaces { (g : Parts) (numbering : Numbering) (id : AnInterface) → MeansInterfaceExports g numbering id }
+    ensures worlds { (g : Parts) (numbering : Numbering) (id : AWorld) → MeansWorldExports g numbering id }
+    ensures imports { (g : Parts) (numbering : Numbering) (id : AWorld) → MeansWorldImports g numbering id }
 {}
 
-/// Some naming of origins gives no two the same number, so what is said of each such naming is not said of none.
+/// Some naming of origins gives no two the same number, so what is said of each such numbering is not said of none.
 pub fn origins_can_be_numbered()
     ensures { IsOneToOne numbered }
 {}

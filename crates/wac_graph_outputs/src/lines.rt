@@ -8,7 +8,7 @@ use wac_graph::CompositionGraph;
 use wac_lexer::Bytes;
 use wac_tool_graphs::write_graph;
 
-/// The lines of `wac resolve`, and behind them a line `open NAME: KIND` for each import that instances leave open.
+/// The lines of `wac resolve`, and after them a line `open NAME: KIND` for each import that instances leave open.
 pub fn text(
     alloc: Global,
     graph: &CompositionGraph,

@@ -98,8 +98,8 @@ no_import_in_uses [] = refl
 no_import_in_uses (u ∷ us) = no_import_in_uses us
 
 -- the rows of a list after another, where the first has nothing of the sort
-behind_none : {X : Type 0} (pick : Slot → Option X) (cs ds : List (Slot × Meaning)) (all : List (X × Meaning)) → items_in pick (row_from cs) ≡ [] → items_in pick (row_from ds) ≡ all → items_in pick (row_from (cs ++ ds)) ≡ all
-behind_none pick cs ds all p q = items_append pick cs ds ∙ ap (λ l. l ++ items_in pick (row_from ds)) p ∙ q
+after_none : {X : Type 0} (pick : Slot → Option X) (cs ds : List (Slot × Meaning)) (all : List (X × Meaning)) → items_in pick (row_from cs) ≡ [] → items_in pick (row_from ds) ≡ all → items_in pick (row_from (cs ++ ds)) ≡ all
+after_none pick cs ds all p q = items_append pick cs ds ∙ ap (λ l. l ++ items_in pick (row_from ds)) p ∙ q
 
 -- the same, where the second has nothing of the sort
 before_none : {X : Type 0} (pick : Slot → Option X) (cs ds : List (Slot × Meaning)) (all : List (X × Meaning)) → items_in pick (row_from cs) ≡ all → items_in pick (row_from ds) ≡ [] → items_in pick (row_from (cs ++ ds)) ≡ all
@@ -114,7 +114,7 @@ pub interface_uses_back : (id : Option (List ℕ)) (us : Uses) (es : Named Meani
 interface_uses_back id us es = before_none slot_use (using us) (in_slots Slot.export es) us (uses_back us) (no_use_in_exports es)
 
 pub interface_exports_back : (id : Option (List ℕ)) (us : Uses) (es : Named Meaning) → exports_of (interface_entry id us es) ≡ es
-interface_exports_back id us es = behind_none slot_export (using us) (in_slots Slot.export es) es (no_export_in_uses us) (exports_back es)
+interface_exports_back id us es = after_none slot_export (using us) (in_slots Slot.export es) es (no_export_in_uses us) (exports_back es)
 
 pub world_id_back : (id : Option (List ℕ)) (us : Uses) (is es : Named Meaning) → id_of (world_entry id us is es) ≡ id
 world_id_back id us is es = refl
@@ -123,7 +123,7 @@ pub world_uses_back : (id : Option (List ℕ)) (us : Uses) (is es : Named Meanin
 world_uses_back id us is es = before_none slot_use (using us ++ in_slots Slot.import is) (in_slots Slot.export es) us (before_none slot_use (using us) (in_slots Slot.import is) us (uses_back us) (no_use_in_imports is)) (no_use_in_exports es)
 
 pub world_exports_back : (id : Option (List ℕ)) (us : Uses) (is es : Named Meaning) → exports_of (world_entry id us is es) ≡ es
-world_exports_back id us is es = behind_none slot_export (using us ++ in_slots Slot.import is) (in_slots Slot.export es) es (behind_none slot_export (using us) (in_slots Slot.import is) [] (no_export_in_uses us) (no_export_in_imports is)) (exports_back es)
+world_exports_back id us is es = after_none slot_export (using us ++ in_slots Slot.import is) (in_slots Slot.export es) es (after_none slot_export (using us) (in_slots Slot.import is) [] (no_export_in_uses us) (no_export_in_imports is)) (exports_back es)
 
 pub world_imports_back : (id : Option (List ℕ)) (us : Uses) (is es : Named Meaning) → imports_of (world_entry id us is es) ≡ is
-world_imports_back id us is es = before_none slot_import (using us ++ in_slots Slot.import is) (in_slots Slot.export es) is (behind_none slot_import (using us) (in_slots Slot.import is) is (no_import_in_uses us) (imports_back is)) (no_import_in_exports es)
+world_imports_back id us is es = before_none slot_import (using us ++ in_slots Slot.import is) (in_slots Slot.export es) is (after_none slot_import (using us) (in_slots Slot.import is) is (no_import_in_uses us) (imports_back is)) (no_import_in_exports es)

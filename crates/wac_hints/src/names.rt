@@ -157,7 +157,7 @@ fn keyword_hint(alloc: Global, spot: &Spot<'_>) -> Found {
 /// Whether what was found is followed by a colon, as a name is that is declared.
 fn is_declared(spot: &Spot<'_>) -> bool {
     match spot.rest.get(spot.text.len()..) {
-        Some(behind) => behind.trim_start().starts_with(':'),
+        Some(after) => after.trim_start().starts_with(':'),
         None => false,
     }
 }
@@ -167,17 +167,17 @@ fn function_first_hint(alloc: Global, spot: &Spot<'_>) -> Found {
     if !spot.has(Token::FuncKeyword) {
         return Ok(None);
     }
-    let Some(behind) = spot.rest.get(spot.text.len()..) else {
+    let Some(after) = spot.rest.get(spot.text.len()..) else {
         return Ok(None);
     };
-    let trimmed = behind.trim_start();
+    let trimmed = after.trim_start();
     let Some(name) = trimmed.get(..name_len(trimmed.as_bytes())) else {
         return Ok(None);
     };
     if name.is_empty() {
         return Ok(None);
     }
-    let blanks = behind.len().saturating_sub(trimmed.len());
+    let blanks = after.len().saturating_sub(trimmed.len());
     let whole = spot
         .text
         .len()
@@ -240,10 +240,10 @@ fn namespace_hint(alloc: Global, spot: &Spot<'_>) -> Found {
         return Ok(None);
     }
     let name = spot.text;
-    let behind = spot.rest.get(name.len()..).unwrap_or("");
-    let len = if behind.starts_with("::") {
+    let after = spot.rest.get(name.len()..).unwrap_or("");
+    let len = if after.starts_with("::") {
         2
-    } else if behind.starts_with('.') || behind.starts_with('/') {
+    } else if after.starts_with('.') || after.starts_with('/') {
         1
     } else {
         let message = format!(in alloc; "a package's name has a namespace, as `my:{name}`")?;

@@ -20,7 +20,7 @@ pub(crate) fn symbol_hint(alloc: Global, spot: &Spot<'_>) -> Found {
 }
 
 /// Whether the parameters of a function end before the place.
-fn is_behind_parameters(spot: &Spot<'_>) -> bool {
+fn is_after_parameters(spot: &Spot<'_>) -> bool {
     match spot.closed {
         Some(bracket) => bracket.before == Some(Token::FuncKeyword),
         None => false,
@@ -29,7 +29,7 @@ fn is_behind_parameters(spot: &Spot<'_>) -> bool {
 
 /// What comes before the results of a function.
 fn arrow_hint(alloc: Global, spot: &Spot<'_>) -> Found {
-    if !is_behind_parameters(spot) {
+    if !is_after_parameters(spot) {
         return Ok(None);
     }
     let message = "`->` comes before what a function returns";

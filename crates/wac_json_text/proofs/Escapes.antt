@@ -161,24 +161,24 @@ nothing_written p = sym (after-blank [] p ∙ (λ i. record p { bytes = append-n
 pub as_ok : {A B : Type 0} (old new : Printer) (a : A) (b : B) (ps : List Piece) → Prints old (Ok a) new ps → Prints old (Ok b) new ps
 as_ok old new a b ps p = record { is = p.is; keeps = p.keeps }
 
--- ---- the run that comes first, and the escape behind it
+-- ---- the run that comes first, and the escape after it
 
 pub run_front : (n : ℕ) (text run : List ℕ) → IsUtf8 text → n ≡ prefix_len is_plain text → run ≡ take n text → run ≡ escape (take n text)
 run_front n text run utf8 len front = front ∙ ap (λ k. take k text) len ∙ sym (run_is text utf8) ∙ ap (λ k. escape (take k text)) (sym len)
 
-pub behind_at : (n : ℕ) (text : List ℕ) (b : ℕ) → slice_get (drop n text) 0 ≡ Some b → (n < length text) × (get_or text n 0 ≡ b)
-behind_at zero [] b e = absurd cc
-behind_at zero (x ∷ text) b e = (omega arith, cc)
-behind_at (suc n) [] b e = absurd cc
-behind_at (suc n) (x ∷ text) b e =
-    let r = behind_at n text b e in
+pub after_at : (n : ℕ) (text : List ℕ) (b : ℕ) → slice_get (drop n text) 0 ≡ Some b → (n < length text) × (get_or text n 0 ≡ b)
+after_at zero [] b e = absurd cc
+after_at zero (x ∷ text) b e = (omega arith, cc)
+after_at (suc n) [] b e = absurd cc
+after_at (suc n) (x ∷ text) b e =
+    let r = after_at n text b e in
     let h : n < length text = r.0 in (omega (arith, h), r.1)
 
-pub none_behind : (n : ℕ) (text : List ℕ) → slice_get (drop n text) 0 ≡ None → length text ≤ n
-none_behind zero [] e = omega arith
-none_behind zero (x ∷ text) e = absurd cc
-none_behind (suc n) [] e = omega arith
-none_behind (suc n) (x ∷ text) e = let h : length text ≤ n = none_behind n text e in omega (arith, h)
+pub none_after : (n : ℕ) (text : List ℕ) → slice_get (drop n text) 0 ≡ None → length text ≤ n
+none_after zero [] e = omega arith
+none_after zero (x ∷ text) e = absurd cc
+none_after (suc n) [] e = omega arith
+none_after (suc n) (x ∷ text) e = let h : length text ≤ n = none_after n text e in omega (arith, h)
 
 pub not_plain_at : (n b : ℕ) (text : List ℕ) → n ≡ prefix_len is_plain text → n < length text → get_or text n 0 ≡ b → is_plain b ≡ false
 not_plain_at n b text len h at =

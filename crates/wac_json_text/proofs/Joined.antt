@@ -69,8 +69,8 @@ pieces_text space fresh ps =
     sym (append-nil (text space fresh ps)) ∙ sym (text-append space fresh ps (blank [] ∷ [])) ∙ pieces_before_is space fresh ps [] ∙ append-nil (pieces_before space fresh ps [])
 
 -- whether nothing is on the line after a value
-abbrev behind : Data → List ℕ → Bool → Bool
-behind d space fresh = fresh_after fresh (text space fresh (pieces d))
+abbrev is_fresh_after : Data → List ℕ → Bool → Bool
+is_fresh_after d space fresh = fresh_after fresh (text space fresh (pieces d))
 
 -- ---- calls that write one text
 
@@ -161,10 +161,10 @@ opened {old = old} a d h = record {
 
 -- a value between a constant and pieces, as one text
 pub around : {A : Type 0} {old new : Printer} {r : Result A PrintError} {a : List ℕ} (d : Data) (ps : List Piece) → Prints old r new (blank a ∷ (pieces d ++ ps))
-    → Prints old r new (blank (a ++ before d (pieces_before old.space (behind d old.space (fresh_after old.fresh a)) ps [])) ∷ [])
+    → Prints old r new (blank (a ++ before d (pieces_before old.space (is_fresh_after d old.space (fresh_after old.fresh a)) ps [])) ∷ [])
 around {old = old} {a = a} d ps h =
     let g = fresh_after old.fresh a in
-    let k = behind d old.space g in
+    let k = is_fresh_after d old.space g in
     let b = pieces_before old.space k ps [] in
     same_text
     (ap (λ u. a ++ u)

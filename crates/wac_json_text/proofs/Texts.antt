@@ -2,7 +2,7 @@
 use Rattle.wac_json_text.proofs.Common.{◌≡◌, ℕ, Bool, true, false, List, [], ◌∷◌, ◌++◌, map, length, codes, append_assoc, append-nil, refl, sym, ap, ◌∙◌, arith, Result, Ok, Err, OnErr, flat_map, quoted, Data, null, boolean, number, string, array, object, Items, no_items, item, Members, no_members, member, compact_text, items_text, members_text, number_text, Piece, blank, text, fresh_after, Printer, Prints, is_front, has_failed, PrintError, text-append, after-blank, fresh_after-append, items_of, optional}
 use Rattle.wac_json_forms.specs.Forms.{list_json}
 use Rattle.wac_printer_pieces.specs.Printed.{after}
-use Rattle.wac_json_text.specs.Pieces.{pieces, items_pieces, others_pieces, members_pieces, behind_comma, joined_pieces, list_pieces, IsBegun}
+use Rattle.wac_json_text.specs.Pieces.{pieces, items_pieces, others_pieces, members_pieces, after_comma, joined_pieces, list_pieces, IsBegun}
 
 -- a value, and what follows it
 followed : (space : List ℕ) (fresh : Bool) (d : Data) (others : List Piece) (out : List ℕ) → ((f : Bool) → text space f (pieces d) ≡ compact_text d) → ((f : Bool) → text space f others ≡ out)
@@ -41,16 +41,16 @@ mutual
 
 -- ---- lists and optional parts, made of the values and of the trees of them
 
-behind_all : {X : Type 0} (form : X → Data) (xs : List X) → flat_map (λ x. behind_comma (pieces (form x))) xs ++ blank (codes "]") ∷ [] ≡ others_pieces (items_of form xs)
-behind_all form [] = refl
-behind_all form (x ∷ xs) =
-    append_assoc (behind_comma (pieces (form x))) (flat_map (λ y. behind_comma (pieces (form y))) xs) (blank (codes "]") ∷ [])
-    ∙ ap (λ ps. blank (codes ",") ∷ (pieces (form x) ++ ps)) (behind_all form xs)
+after_all : {X : Type 0} (form : X → Data) (xs : List X) → flat_map (λ x. after_comma (pieces (form x))) xs ++ blank (codes "]") ∷ [] ≡ others_pieces (items_of form xs)
+after_all form [] = refl
+after_all form (x ∷ xs) =
+    append_assoc (after_comma (pieces (form x))) (flat_map (λ y. after_comma (pieces (form y))) xs) (blank (codes "]") ∷ [])
+    ∙ ap (λ ps. blank (codes ",") ∷ (pieces (form x) ++ ps)) (after_all form xs)
 
 joined_items : {X : Type 0} (form : X → Data) (xs : List X) → joined_pieces (λ x. pieces (form x)) xs ++ blank (codes "]") ∷ [] ≡ items_pieces (items_of form xs)
 joined_items form [] = refl
 joined_items form (x ∷ xs) =
-    append_assoc (pieces (form x)) (flat_map (λ y. behind_comma (pieces (form y))) xs) (blank (codes "]") ∷ []) ∙ ap (λ ps. pieces (form x) ++ ps) (behind_all form xs)
+    append_assoc (pieces (form x)) (flat_map (λ y. after_comma (pieces (form y))) xs) (blank (codes "]") ∷ []) ∙ ap (λ ps. pieces (form x) ++ ps) (after_all form xs)
 
 pub list_is : {X : Type 0} (form : X → Data) (xs : List X) → list_pieces (λ x. pieces (form x)) xs ≡ pieces (list_json form xs)
 unfolding list_json

@@ -48,13 +48,13 @@ abbrev mutual
 -- ---- what the parts of the writer put
 
 -- one of the items after the first
-abbrev pub behind_comma : List Piece → List Piece
-behind_comma value = blank (codes ",") ∷ value
+abbrev pub after_comma : List Piece → List Piece
+after_comma value = blank (codes ",") ∷ value
 
 -- items with a comma between two
 abbrev pub joined_pieces : {X : Type 0} → (X → List Piece) → List X → List Piece
 joined_pieces put [] = []
-joined_pieces put (x ∷ xs) = put x ++ flat_map (λ y. behind_comma (put y)) xs
+joined_pieces put (x ∷ xs) = put x ++ flat_map (λ y. after_comma (put y)) xs
 
 -- a list in brackets
 abbrev pub list_pieces : {X : Type 0} → (X → List Piece) → List X → List Piece
@@ -75,7 +75,7 @@ numbers_pieces major minor patch =
     ∷ blank (escape (decimal patch))
     ∷ []
 
--- what stands behind the numbers of a version
+-- what stands after the numbers of a version
 abbrev pub marks_pieces : List ℕ → List ℕ → List Piece
 marks_pieces pre build = marked_pieces (codes "-") pre ++ marked_pieces (codes "+") build
 

@@ -5,7 +5,7 @@ ghost use Rattle.wac_ast_statements.specs.Expressions.{argument_name_of, expr_of
 ghost use Rattle.wac_printer_pieces.specs.Printed.{Prints};
 ghost use Rattle.wac_json_text.specs.Contents.{argument_pieces, named_json, nested_json};
 ghost use Rattle.wac_json_forms.specs.Forms.{expr_json, primary_expr_json};
-ghost use Rattle.wac_json_text.specs.Pieces.{behind_comma, joined_pieces, pieces};
+ghost use Rattle.wac_json_text.specs.Pieces.{after_comma, joined_pieces, pieces};
 
 use crate::form::{Enclosed, Json};
 use crate::parts::enclosed;
@@ -96,7 +96,7 @@ fn further_arguments<S: Sink>(
     arguments: &[InstantiationArgument<'_>],
     out: &mut Pieces<'_, S>,
 ) -> PrintResult
-    ensures { Prints out.old result out.new (flat_map (λ x. behind_comma (argument_pieces x)) arguments.now) }
+    ensures { Prints out.old result out.new (flat_map (λ x. after_comma (argument_pieces x)) arguments.now) }
 {
     out.ready()?;
     for tree in arguments {
@@ -110,7 +110,7 @@ fn further_argument<S: Sink>(
     tree: &InstantiationArgument<'_>,
     out: &mut Pieces<'_, S>,
 ) -> PrintResult
-    ensures { Prints out.old result out.new (behind_comma (argument_pieces tree.now)) }
+    ensures { Prints out.old result out.new (after_comma (argument_pieces tree.now)) }
 {
     out.blank(",").and(argument(tree, out))
 }

@@ -5,7 +5,7 @@ ghost use Rattle.wac_printer_layout.specs.Printed.{blank};
 ghost use Rattle.wac_printer_pieces.specs.Printed.{Prints};
 ghost use Rattle.wac_json_text.specs.Contents.{variant_pieces};
 ghost use Rattle.wac_json_forms.specs.Forms.{list_json};
-ghost use Rattle.wac_json_text.specs.Pieces.{pieces, behind_comma, joined_pieces};
+ghost use Rattle.wac_json_text.specs.Pieces.{pieces, after_comma, joined_pieces};
 
 use crate::form::{Enclosed, Json};
 use itoa::Buffer;
@@ -133,26 +133,26 @@ fn joined<T: Json, S: Sink>(items: &[T], out: &mut Pieces<'_, S>) -> PrintResult
         None => out.ready(),
         Some((first, rest)) => {
             first.write(out)?;
-            behind_commas(rest, out)
+            after_commas(rest, out)
         }
     }
 }
 
 /// Writes items, each after a comma.
 #[tactic(auto, using(crate::proofs::Steps::steps))]
-fn behind_commas<T: Json, S: Sink>(items: &[T], out: &mut Pieces<'_, S>) -> PrintResult
-    ensures { Prints out.old result out.new (flat_map (λ x. behind_comma (pieces (T.form x))) items.now) }
+fn after_commas<T: Json, S: Sink>(items: &[T], out: &mut Pieces<'_, S>) -> PrintResult
+    ensures { Prints out.old result out.new (flat_map (λ x. after_comma (pieces (T.form x))) items.now) }
 {
     out.ready()?;
     for item in items {
-        behind_comma(item, out)?;
+        after_comma(item, out)?;
     }
     Ok(())
 }
 
 #[tactic(auto, using(crate::proofs::Steps::steps))]
-fn behind_comma<T: Json, S: Sink>(item: &T, out: &mut Pieces<'_, S>) -> PrintResult
-    ensures { Prints out.old result out.new (behind_comma (pieces (T.form item.now))) }
+fn after_comma<T: Json, S: Sink>(item: &T, out: &mut Pieces<'_, S>) -> PrintResult
+    ensures { Prints out.old result out.new (after_comma (pieces (T.form item.now))) }
 {
     out.blank(",").and(item.write(out))
 }

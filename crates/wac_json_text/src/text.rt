@@ -69,7 +69,7 @@ fn escaped<S: Sink>(text: &str, out: &mut Pieces<'_, S>) -> PrintResult
     Ok(())
 }
 
-/// Writes the bytes that come first and stand as they are, and the escape behind them.
+/// Writes the bytes that come first and stand as they are, and the escape after them.
 ///
 /// Returns how many bytes these are.
 fn escaped_front<S: Sink>(text: &str, out: &mut Pieces<'_, S>) -> Result<usize, PrintError>
@@ -77,9 +77,9 @@ fn escaped_front<S: Sink>(text: &str, out: &mut Pieces<'_, S>) -> Result<usize, 
     ensures { FrontWritten out.old result out.new text.now }
 {
     let len = plain_len(text);
-    let (run, behind) = text.split_at(len);
+    let (run, after) = text.split_at(len);
     out.blank(run)?;
-    match behind.as_bytes().first() {
+    match after.as_bytes().first() {
         Some(byte) => {
             out.blank(escape_of(*byte))?;
             Ok(len + 1)
@@ -137,7 +137,7 @@ fn version_text<S: Sink>(version: &Version, out: &mut Pieces<'_, S>) -> PrintRes
     version_parts(version, out)
 }
 
-/// Writes the numbers of a version, and what stands behind them.
+/// Writes the numbers of a version, and what stands after them.
 #[tactic(auto, using(crate::proofs::Steps::steps))]
 fn version_parts<S: Sink>(version: &Version, out: &mut Pieces<'_, S>) -> PrintResult
     ensures { Prints out.old result out.new (version_pieces (parts_of version.now)) }
@@ -157,7 +157,7 @@ fn numbers<S: Sink>(version: &Version, out: &mut Pieces<'_, S>) -> PrintResult
         .and(number(version.patch, out))
 }
 
-/// Writes what stands behind the numbers of a version.
+/// Writes what stands after the numbers of a version.
 #[tactic(auto, using(crate::proofs::Steps::steps))]
 fn marks<S: Sink>(version: &Version, out: &mut Pieces<'_, S>) -> PrintResult
     ensures { Prints out.old result out.new (marks_pieces (pre_text version.now.pre) (build_text version.now.build)) }

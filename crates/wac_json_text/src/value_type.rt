@@ -7,7 +7,7 @@ ghost use Rattle.wac_ast_types.specs.Types.{optional_of, ty_of};
 ghost use Rattle.wac_printer_pieces.specs.Printed.{Prints};
 ghost use Rattle.wac_json_text.specs.Contents.{failure_pieces, held_pieces, keyword_pieces, perhaps_held_pieces, result_end_pieces, success_pieces, tuple_json};
 ghost use Rattle.wac_json_forms.specs.Forms.{optional_ty_json, ty_json};
-ghost use Rattle.wac_json_text.specs.Pieces.{behind_comma, joined_pieces, pieces};
+ghost use Rattle.wac_json_text.specs.Pieces.{after_comma, joined_pieces, pieces};
 
 use crate::form::{Enclosed, Json};
 use crate::parts::enclosed;
@@ -171,7 +171,7 @@ fn joined_types<S: Sink>(types: &[Type<'_>], out: &mut Pieces<'_, S>) -> PrintRe
 /// Writes types, each after a comma.
 #[cycle(types)]
 fn further_types<S: Sink>(types: &[Type<'_>], out: &mut Pieces<'_, S>) -> PrintResult
-    ensures { Prints out.old result out.new (flat_map (λ x. behind_comma (pieces (ty_json (ty_of x)))) types.now) }
+    ensures { Prints out.old result out.new (flat_map (λ x. after_comma (pieces (ty_json (ty_of x)))) types.now) }
 {
     out.ready()?;
     for held in types {
@@ -182,7 +182,7 @@ fn further_types<S: Sink>(types: &[Type<'_>], out: &mut Pieces<'_, S>) -> PrintR
 
 #[cycle(types)]
 fn further_type<S: Sink>(held: &Type<'_>, out: &mut Pieces<'_, S>) -> PrintResult
-    ensures { Prints out.old result out.new (behind_comma (pieces (ty_json (ty_of held.now)))) }
+    ensures { Prints out.old result out.new (after_comma (pieces (ty_json (ty_of held.now)))) }
 {
     out.blank(",").and(ty(held, out))
 }

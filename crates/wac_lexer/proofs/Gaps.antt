@@ -1,6 +1,6 @@
 -- One step over the blanks and comments of a gap.
 use Rattle.wac_lexer.proofs.Common.{◌≡◌, ℕ, zero, suc, ◌+◌, ◌-◌, ◌<◌, ◌≤◌, false, cond, List, [], ◌∷◌, drop, length, sym, refl, ap, ◌∙◌, arith, Some, None, add-zero, ◌==◌, drop-drop, drop_all, length-drop, ne_eqb}
-use Rattle.wac_lexer.specs.Comments.{behind, block_len, gap, part_len, parts_len}
+use Rattle.wac_lexer.specs.Comments.{after, block_len, gap, part_len, parts_len}
 
 -- the length of a gap, part by part
 abbrev next_part : ℕ → ℕ → List ℕ → ℕ
@@ -23,12 +23,12 @@ gap_more bytes i (suc m) p g e positive fits within enough total =
 pub gap_end : (bytes : List ℕ) (i n g : ℕ) → length bytes ≤ i → i + parts_len n (drop i bytes) ≡ g → i ≡ g
 gap_end bytes i n g h total = sym (gap_done (drop i bytes) i n (ap part_len (drop_all i bytes h))) ∙ total
 
-pub block_is : (text : List ℕ) (n : ℕ) → 2 ≤ length text → n ≤ length (drop 2 text) → behind 1 (drop 2 text) ≡ Some (drop n (drop 2 text)) → n + 2 ≡ block_len text
+pub block_is : (text : List ℕ) (n : ℕ) → 2 ≤ length text → n ≤ length (drop 2 text) → after 1 (drop 2 text) ≡ Some (drop n (drop 2 text)) → n + 2 ≡ block_len text
 block_is text n long fits e =
     let rest : n + 2 ≡ length text - length (drop n (drop 2 text)) = omega (arith, length-drop n (drop 2 text), length-drop 2 text) in
     rest ∙ sym (ap (λ o. elim o [ Some r ↦ length text - length r | None ↦ 0 ]) e)
 
-pub block_none : (text : List ℕ) → behind 1 (drop 2 text) ≡ None → 0 ≡ block_len text
+pub block_none : (text : List ℕ) → after 1 (drop 2 text) ≡ None → 0 ≡ block_len text
 block_none text e = sym (ap (λ o. elim o [ Some r ↦ length text - length r | None ↦ 0 ]) e)
 
 parts_none : (m : ℕ) → parts_len m [] ≡ 0

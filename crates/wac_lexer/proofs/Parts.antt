@@ -1,6 +1,6 @@
 -- The blanks and comments that are skipped are the longest gap, and its docs are those of the place.
 use Rattle.wac_lexer.proofs.Common.{◌≡◌, ◌≢◌, ℕ, zero, suc, ◌+◌, ◌-◌, ◌<◌, ◌≤◌, Bool, true, false, cond, List, [], ◌∷◌, ◌++◌, take, drop, length, sym, refl, ap, ◌∙◌, subst, arith, inl, inr, ⊎_elim, Option, Some, None, length-append, append_assoc, ◌==◌, not, nat_eq, slice_index, concat, AllByRecursion, prefix_len, take-append_seam, drop-append_seam, drop-drop, length-drop, drop_all, cases_Bool, cond_both, ne_eqb, eqb-true, true≢false, eq-eqb}
-use Rattle.wac_lexer.specs.Comments.{Inside, behind, begins, opens, is_blank, is_not_line_end, line_len, block_len, part_len, parts_len, gap}
+use Rattle.wac_lexer.specs.Comments.{Inside, after, begins, opens, is_blank, is_not_line_end, line_len, block_len, part_len, parts_len, gap}
 use Rattle.wac_lexer.specs.Docs.{doc_of_part, docs_upto, docs_at}
 use Rattle.wac_lexer.specs.Gap.{EndsLine, IsPart, Gap, IsLongestGap, docs_among}
 use Rattle.wac_lexer.proofs.Pieces.{made, meant, opens_is, lines_is, inside_front}
@@ -85,7 +85,7 @@ line_part text e some =
     let len : suc (suc (length line.0)) ≡ line_len (47 ∷ 47 ∷ drop 2 text) = omega (arith, line.3) in
     (47 ∷ 47 ∷ line.0, line.1, is ∙ ap (λ t. 47 ∷ 47 ∷ t) line.2, len ∙ sym (ap line_len is), inr (inl (line.0, refl, line.4, line.5)))
 
-block_part : (text : List ℕ) → opens text ≡ true → (after : Option (List ℕ)) → behind 1 (drop 2 text) ≡ after → Found text (block_len text)
+block_part : (text : List ℕ) → opens text ≡ true → (found : Option (List ℕ)) → after 1 (drop 2 text) ≡ found → Found text (block_len text)
 block_part text e None a some = let none : block_len text ≡ 0 = ap (λ o. elim o [ Some r ↦ length text - length r | None ↦ 0 ]) a in absurd (omega (arith, some, none))
 block_part text e (Some rest) a some =
     let inside = meant (drop 2 text) rest a in
@@ -106,7 +106,7 @@ part_found text =
     cond_both (length text == 0) 0 _ (Found text) (λ e some. absurd (omega arith)) (λ some.
     cond_both (is_blank (slice_index text 0)) 1 _ (Found text) (λ e. blank_found text some e) (λ b.
     cond_both (begins 47 47 text) (line_len text) _ (Found text) (λ e. line_part text e) (λ l.
-    cond_both (opens text) (block_len text) 0 (Found text) (λ e. block_part text e (behind 1 (drop 2 text)) refl) (λ o none. absurd (omega arith)))))
+    cond_both (opens text) (block_len text) 0 (Found text) (λ e. block_part text e (after 1 (drop 2 text)) refl) (λ o none. absurd (omega arith)))))
 
 -- up to n parts, and whether that is all of them
 abbrev next_len : ℕ → ℕ → List ℕ → ℕ
@@ -119,8 +119,8 @@ len_none (suc m) text e = ap (λ p. next_len p m text) e
 len_more : (m : ℕ) (text part rest : List ℕ) → text ≡ part ++ rest → part_len text ≡ length part → 0 < length part → parts_len (suc m) text ≡ length part + parts_len m rest
 len_more m text part rest split e some =
     let test : (length part == 0) ≡ false = ne_eqb (length part) 0 (λ z. omega arith) in
-    let behind_part : drop (length part) text ≡ rest = ap (drop (length part)) split ∙ drop-append_seam part rest in
-    ap (λ p. next_len p m text) e ∙ (λ i. length part + cond (test i) 0 (parts_len m (behind_part i)))
+    let after_part : drop (length part) text ≡ rest = ap (drop (length part)) split ∙ drop-append_seam part rest in
+    ap (λ p. next_len p m text) e ∙ (λ i. length part + cond (test i) 0 (parts_len m (after_part i)))
 
 drop_more : (text part rest : List ℕ) (n : ℕ) → text ≡ part ++ rest → drop (length part + n) text ≡ drop n rest
 drop_more text part rest n split =

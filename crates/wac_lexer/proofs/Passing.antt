@@ -14,9 +14,9 @@ all_passed_on old new xs at n e h =
     ap (λ x. new ++ x) (sym (drop_all (at + n) xs (omega (arith, h, length-drop at xs)))) ∙ passed_on old new xs at n e
 
 -- bytes are written after those held
-pub written_behind : (front put rest : List ℕ) (at end n : ℕ) → length front ≡ end → length put ≡ n → at ≤ end
+pub written_after : (front put rest : List ℕ) (at end n : ℕ) → length front ≡ end → length put ≡ n → at ≤ end
     → drop at (take (end + n) (front ++ (put ++ rest))) ≡ drop at front ++ put
-written_behind front put rest at end n e k h =
+written_after front put rest at end n e k h =
     let both : length (front ++ put) ≡ end + n = omega (arith, length-append front put) in
     ap (λ x. drop at (take (end + n) x)) (sym (append_assoc front put rest)) ∙ ap (drop at) (take_at (front ++ put) rest (end + n) both)
     ∙ drop-append-le at front put (omega arith)

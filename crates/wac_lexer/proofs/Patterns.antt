@@ -79,9 +79,9 @@ after_made b (Then p q) t ([], rest, e, m, n) =
     (inr (subst (λ v. Matches (cond v (after b q) Nothing) t) (sym (stops_made p m)) (after_made b q t begins)))
 after_made b (Then p q) t (x ∷ xs, rest, e, m, n) =
     let same : b ≡ x = cc in
-    let behind : t ≡ xs ++ rest = cc in
+    let splits : t ≡ xs ++ rest = cc in
     either_made (followed_by (after b p) q) (cond (may_stop p) (after b q) Nothing) t
-    (inl (followed_made (after b p) q t (xs, rest, behind, after_made b p xs (subst (λ c. Matches p (c ∷ xs)) (sym same) m), n)))
+    (inl (followed_made (after b p) q t (xs, rest, splits, after_made b p xs (subst (λ c. Matches p (c ∷ xs)) (sym same) m), n)))
 after_made b (Or p q) t (inl h) = either_made (after b p) (after b q) t (inl (after_made b p t h))
 after_made b (Or p q) t (inr h) = either_made (after b p) (after b q) t (inr (after_made b q t h))
 after_made b (Many p) t h =

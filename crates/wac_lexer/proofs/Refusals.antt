@@ -30,9 +30,9 @@ refused_end place (b ∷ bs) e = absurd cc
 pub passes_char : (source rest : List ℕ) (place c : ℕ) → IsUtf8 (drop place source) → drop place source ≡ encode_utf8 c ++ rest → fault_of c ≡ None
     → refused_from place (chars (drop place source)) ≡ refused_from (place + len_utf8 c) (chars (drop (place + len_utf8 c) source))
 passes_char source rest place c utf8 begins none =
-    let behind : drop (len_utf8 c) (drop place source) ≡ rest = (λ i. drop (sym (length-encode c) i) (begins i)) ∙ drop-append_seam (encode_utf8 c) rest in
+    let after : drop (len_utf8 c) (drop place source) ≡ rest = (λ i. drop (sym (length-encode c) i) (begins i)) ∙ drop-append_seam (encode_utf8 c) rest in
     refused_later place (drop place source) rest c utf8 begins none
-    ∙ ap (λ t. refused_from (place + len_utf8 c) (chars t)) (sym behind ∙ drop-drop (len_utf8 c) place source)
+    ∙ ap (λ t. refused_from (place + len_utf8 c) (chars t)) (sym after ∙ drop-drop (len_utf8 c) place source)
 
 -- a plain byte is a character that passes
 each_plain : below (λ b. not (is_plain b) || is_none (fault_of b)) 128 ≡ true
@@ -60,7 +60,7 @@ blocks_more bytes i n before block =
     ∙ list_all-append is_plain (take i bytes) (take n (drop i bytes))
     ∙ and_from (list_all is_plain (take i bytes)) (list_all is_plain (take n (drop i bytes))) before block
 
--- what comes behind blocks of plain bytes
+-- what comes after blocks of plain bytes
 pub blocks_len : (bytes : List ℕ) (i : ℕ) → i ≤ length bytes → list_all is_plain (take i bytes) ≡ true → i + prefix_len is_plain (drop i bytes) ≡ prefix_len is_plain bytes
 blocks_len bytes zero within plain = zero-add _
 blocks_len [] (suc i) within plain = absurd (omega arith)
@@ -87,9 +87,9 @@ plain_front place (b ∷ bs) utf8 = ⊎_elim (passes (plain_front (place + len_u
 
     passes : (IsUtf8 bs → IsUtf8 (drop n bs) × (refused_from (place + len_utf8 b + n) (chars (drop n bs)) ≡ refused_from (place + len_utf8 b) (chars bs)))
         → is_plain b ≡ true → Front (prefix_len is_plain (b ∷ bs))
-    passes behind e =
+    passes after e =
         let whole : b ∷ bs ≡ encode_utf8 b ++ bs = ap (λ t. t ++ bs) (sym (encode_ascii b (plain_ascii b e))) in
-        let later = behind (IsUtf8-past_char (b ∷ bs) bs b utf8 whole) in
+        let later = after (IsUtf8-past_char (b ∷ bs) bs b utf8 whole) in
         let one : len_utf8 b ≡ 1 = sym (length-encode b) ∙ ap length (encode_ascii b (plain_ascii b e)) in
         let at : place + suc n ≡ place + len_utf8 b + n = omega (arith, one) in
         let here : Front (suc n) = (later.0, ap (λ k. refused_from k (chars (drop n bs))) at ∙ later.1 ∙ sym (refused_later place (b ∷ bs) bs b utf8 whole (plain_none b e))) in
@@ -115,7 +115,7 @@ plain_passes source place utf8 at =
 abbrev Refuses : ℕ → List ℕ → Option (Error × Span) → Type 0
 Refuses place cs None = AllByRecursion (λ c. fault_of c ≡ None) cs
 Refuses place cs (Some found) =
-    (before : List ℕ) × (c : ℕ) × (behind : List ℕ) × (cs ≡ before ++ c ∷ behind) × AllByRecursion (λ c. fault_of c ≡ None) before
+    (before : List ℕ) × (c : ℕ) × (after : List ℕ) × (cs ≡ before ++ c ∷ after) × AllByRecursion (λ c. fault_of c ≡ None) before
     × (fault_of c ≡ Some found.0) × (found.1 ≡ span (place + sum_by len_utf8 before) (len_utf8 c))
 
 refuses : (place : ℕ) (cs : List ℕ) → Refuses place cs (refused_from place cs)
@@ -144,7 +144,7 @@ first_refused text = go (refused text) (refuses 0 (chars text))
         record {
           before = h.0;
           character = h.1;
-          behind = h.2;
+          after = h.2;
           stands = h.3;
           passed = h.4;
           is = h.5;

@@ -14,7 +14,7 @@ use Rattle.wac_lexer.specs.declared.shape.Shape.TheVariants as shapes
 use Rattle.wac_lexer.specs.Automaton.Package.{Name, Path}
 use Rattle.wac_lexer.specs.Automaton.Part.{First, Later}
 use Rattle.wac_lexer.specs.Automaton.{State}
-use Rattle.wac_lexer.specs.Automaton.State.{Start, Joined, Small, Capital, Behind, Version, Digits, Point, Tail, Inside, Closed, Minus, OneDot, TwoDots, Ended, Dead}
+use Rattle.wac_lexer.specs.Automaton.State.{Start, Joined, Small, Capital, After, Version, Digits, Point, Tail, Inside, Closed, Minus, OneDot, TwoDots, Ended, Dead}
 use Rattle.wac_lexer.proofs.Patterns.{matches_made, matches_meant}
 use Rattle.wac_lexer.proofs.States.{Reads, rest_of, reads_none, reads_more, shape_is}
 use Rattle.wac_lexer.proofs.Texts.{bytes_eq_is, bytes_eq_same, is_shape, is_shape_is, find_first, word_not_found, other_not_found, token_by}
@@ -62,14 +62,14 @@ shape_bytes shapes.Quoted text h = bytes_of quoted refl text h
 shape_bytes shapes.Symbol text h = bytes_of symbol refl text h
 
 -- each text of bytes leads to a state
-pub state_behind : (before rest : List ℕ) (state : State) → Reads state before → AreBytes rest → (next : State) × Reads next (before ++ rest)
-state_behind before [] state r h = (state, subst (Reads state) (sym (append-none before)) r)
+pub state_after : (before rest : List ℕ) (state : State) → Reads state before → AreBytes rest → (next : State) × Reads next (before ++ rest)
+state_after before [] state r h = (state, subst (Reads state) (sym (append-none before)) r)
   where
     append-none : (xs : List ℕ) → xs ++ [] ≡ xs
     append-none [] = refl
     append-none (x ∷ xs) = ap (λ l. x ∷ l) (append-none xs)
-state_behind before (b ∷ rest) state r h =
-    let next = state_behind (before ++ b ∷ []) rest (step_of state (class_of b)) (reads_more state before b r h.0) h.1 in
+state_after before (b ∷ rest) state r h =
+    let next = state_after (before ++ b ∷ []) rest (step_of state (class_of b)) (reads_more state before b r h.0) h.1 in
     (next.0, subst (Reads next.0) (append_assoc before (b ∷ []) rest) next.1)
 
 -- a state ends the texts of one shape alone
@@ -92,8 +92,8 @@ each_stops_once (Small (Later Path)) = refl
 each_stops_once (Capital First) = refl
 each_stops_once (Capital (Later Name)) = refl
 each_stops_once (Capital (Later Path)) = refl
-each_stops_once (Behind Name) = refl
-each_stops_once (Behind Path) = refl
+each_stops_once (After Name) = refl
+each_stops_once (After Path) = refl
 each_stops_once (Version Name) = refl
 each_stops_once (Version Path) = refl
 each_stops_once (Digits Name) = refl
@@ -140,7 +140,7 @@ stops state shape e =
 -- a text of a shape's pattern has that shape, and no other
 pub shape_found : (text : List ℕ) (shape : Shape) → Matches (pattern_of shape) text → shape_of text ≡ Some shape
 shape_found text shape h =
-    let state = state_behind [] text Start reads_none (shape_bytes shape text h) in
+    let state = state_after [] text Start reads_none (shape_bytes shape text h) in
     let stop : may_stop (rest_of state.0 shape) ≡ true = ap may_stop (sym (state.1 shape)) ∙ matches_made (pattern_of shape) text h in
     shape_is state.0 text state.1 ∙ stops state.0 shape stop
 

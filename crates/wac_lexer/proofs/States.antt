@@ -12,7 +12,7 @@ use Rattle.wac_lexer.specs.Automaton.Package.{Name, Path}
 use Rattle.wac_lexer.specs.Automaton.{Part}
 use Rattle.wac_lexer.specs.Automaton.Part.{First, Later}
 use Rattle.wac_lexer.specs.Automaton.{State}
-use Rattle.wac_lexer.specs.Automaton.State.{Start, Joined, Small, Capital, Behind, Version, Digits, Point, Tail, Inside, Closed, Minus, OneDot, TwoDots, Ended, Dead}
+use Rattle.wac_lexer.specs.Automaton.State.{Start, Joined, Small, Capital, After, Version, Digits, Point, Tail, Inside, Closed, Minus, OneDot, TwoDots, Ended, Dead}
 
 abbrev more_words : Pattern
 more_words = Many (Then (byte 45) word)
@@ -34,15 +34,15 @@ abbrev slash_id : Pattern
 slash_id = Then (byte 47) id
 
 -- the rest of a name and of a path, after the rest of one of their identifiers
-abbrev name_behind : Part → Pattern → Pattern
-name_behind First rest = Then rest (Then (some colon_id) at_version)
-name_behind (Later Name) rest = Then (Then rest (Many colon_id)) at_version
-name_behind (Later Path) rest = Nothing
+abbrev name_after : Part → Pattern → Pattern
+name_after First rest = Then rest (Then (some colon_id) at_version)
+name_after (Later Name) rest = Then (Then rest (Many colon_id)) at_version
+name_after (Later Path) rest = Nothing
 
-abbrev path_behind : Part → Pattern → Pattern
-path_behind First rest = Then rest (Then (some colon_id) (Then (some slash_id) at_version))
-path_behind (Later Name) rest = Then (Then rest (Many colon_id)) (Then (some slash_id) at_version)
-path_behind (Later Path) rest = Then (Then rest (Many slash_id)) at_version
+abbrev path_after : Part → Pattern → Pattern
+path_after First rest = Then rest (Then (some colon_id) (Then (some slash_id) at_version))
+path_after (Later Name) rest = Then (Then rest (Many colon_id)) (Then (some slash_id) at_version)
+path_after (Later Path) rest = Then (Then rest (Many slash_id)) at_version
 
 abbrev points : Pattern
 points = Many (Then (byte 46) (some version_byte))
@@ -52,14 +52,14 @@ of_kind Name shapes.Name rest = rest
 of_kind Path shapes.Path rest = rest
 of_kind kind shape rest = Nothing
 
-abbrev id_behind : Part → Pattern → Pattern
-id_behind First rest = rest
-id_behind part rest = Nothing
+abbrev id_after : Part → Pattern → Pattern
+id_after First rest = rest
+id_after part rest = Nothing
 
 abbrev in_id : Part → Shape → Pattern → Pattern
-in_id part shapes.Word rest = id_behind part rest
-in_id part shapes.Name rest = name_behind part rest
-in_id part shapes.Path rest = path_behind part rest
+in_id part shapes.Word rest = id_after part rest
+in_id part shapes.Name rest = name_after part rest
+in_id part shapes.Path rest = path_after part rest
 in_id part shape rest = Nothing
 
 -- what may follow in a state, for a text of a shape
@@ -68,7 +68,7 @@ rest_of Start shape = pattern_of shape
 rest_of (Joined part) shape = in_id part shape joined
 rest_of (Small part) shape = in_id part shape small
 rest_of (Capital part) shape = in_id part shape capital
-rest_of (Behind kind) shape = in_id (Later kind) shape id
+rest_of (After kind) shape = in_id (Later kind) shape id
 rest_of (Version kind) shape = of_kind kind shape version
 rest_of (Digits kind) shape = of_kind kind shape (Then (Many digit) points)
 rest_of (Point kind) shape = of_kind kind shape (Then (some version_byte) points)
@@ -167,8 +167,8 @@ each_agrees (Small (Later Path)) = refl
 each_agrees (Capital First) = refl
 each_agrees (Capital (Later Name)) = refl
 each_agrees (Capital (Later Path)) = refl
-each_agrees (Behind Name) = refl
-each_agrees (Behind Path) = refl
+each_agrees (After Name) = refl
+each_agrees (After Path) = refl
 each_agrees (Version Name) = refl
 each_agrees (Version Path) = refl
 each_agrees (Digits Name) = refl
@@ -221,8 +221,8 @@ shape_by_state (Small (Later Path)) = refl
 shape_by_state (Capital First) = refl
 shape_by_state (Capital (Later Name)) = refl
 shape_by_state (Capital (Later Path)) = refl
-shape_by_state (Behind Name) = refl
-shape_by_state (Behind Path) = refl
+shape_by_state (After Name) = refl
+shape_by_state (After Path) = refl
 shape_by_state (Version Name) = refl
 shape_by_state (Version Path) = refl
 shape_by_state (Digits Name) = refl

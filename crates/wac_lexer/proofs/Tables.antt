@@ -4,7 +4,7 @@ use Rattle.wac_lexer.specs.Automaton.{Class, State, class_of, step_of, shape_at,
 use Rattle.wac_lexer.specs.Automaton.Class.{Lower, Upper, Digit, Percent, Dash, Plus, Colon, Slash, At, Dot, Quote, CloseAngle, OtherSymbol, Other}
 use Rattle.wac_lexer.specs.Automaton.Package.{Name, Path}
 use Rattle.wac_lexer.specs.Automaton.Part.{First, Later}
-use Rattle.wac_lexer.specs.Automaton.State.{Start, Joined, Small, Capital, Behind, Version, Digits, Point, Tail, Inside, Closed, Minus, OneDot, TwoDots, Ended, Dead}
+use Rattle.wac_lexer.specs.Automaton.State.{Start, Joined, Small, Capital, After, Version, Digits, Point, Tail, Inside, Closed, Minus, OneDot, TwoDots, Ended, Dead}
 use Rattle.wac_lexer.specs.declared.shape.Shape.{Shape}
 use Rattle.wac_lexer.specs.declared.shape.Shape.TheVariants as shapes
 use Rattle.wac_lexer.specs.declared.automaton.TheConstants.{CLASSES, STEPS}
@@ -62,8 +62,8 @@ state_number Start = 13
 state_number (Joined First) = 14
 state_number (Joined (Later Name)) = 15
 state_number (Joined (Later Path)) = 16
-state_number (Behind Name) = 17
-state_number (Behind Path) = 18
+state_number (After Name) = 17
+state_number (After Path) = 18
 state_number (Version Name) = 19
 state_number (Version Path) = 20
 state_number (Point Name) = 21
@@ -91,8 +91,8 @@ state_numbered Start = refl
 state_numbered (Joined First) = refl
 state_numbered (Joined (Later Name)) = refl
 state_numbered (Joined (Later Path)) = refl
-state_numbered (Behind Name) = refl
-state_numbered (Behind Path) = refl
+state_numbered (After Name) = refl
+state_numbered (After Path) = refl
 state_numbered (Version Name) = refl
 state_numbered (Version Path) = refl
 state_numbered (Point Name) = refl

@@ -1,7 +1,7 @@
 -- The items after a place, unfolded once: the first one, and the items after it.
 use Rattle.wac_lexer.proofs.Common.{◌≡◌, ℕ, zero, suc, ◌+◌, ◌<◌, ◌≤◌, List, [], ◌∷◌, ◌++◌, take, drop, length, sym, refl, ap, ◌∙◌, subst, arith, Option, Some, None, Result, Err, append_assoc, slice_get, slice_index, nat_eq, nat_lt, ◌==◌, len_utf8, chars, drop_all, cond_both}
 use Rattle.wac_lexer.specs.Span.{span, end_of}
-use Rattle.wac_lexer.specs.Item.{Item, behind_first, OnFirst}
+use Rattle.wac_lexer.specs.Item.{Item, after_first_item, OnFirst}
 use Rattle.wac_lexer.specs.Tokens.{token_of, longest_token}
 use Rattle.wac_lexer.specs.Comments.{gap, opens}
 use Rattle.wac_lexer.specs.Docs.{docs_at}
@@ -112,14 +112,14 @@ pub items_end : (source : List ℕ) (place : ℕ) → length source ≤ place �
 items_end source place h = items_none source place (none_at_end source place h)
 
 -- where no items are left, none are left at the end
-pub none_left : (source : List ℕ) (place : ℕ) → items_from source place ≡ [] → items_from source (length source) ≡ behind_first (items_from source place)
-none_left source place none = items_end source (length source) (omega arith) ∙ sym (ap behind_first none)
+pub none_left : (source : List ℕ) (place : ℕ) → items_from source place ≡ [] → items_from source (length source) ≡ after_first_item (items_from source place)
+none_left source place none = items_end source (length source) (omega arith) ∙ sym (ap after_first_item none)
 
 -- after an item the place is between two items again
-pub between_next : (source : List ℕ) (place next : ℕ) → BetweenItems source place → items_from source next ≡ behind_first (items_from source place) → BetweenItems source next
+pub between_next : (source : List ℕ) (place next : ℕ) → BetweenItems source place → items_from source next ≡ after_first_item (items_from source place) → BetweenItems source next
 between_next source place next between e = go (items_from source place) between.1 e
   where
-    go : (after : List Item) → items source ≡ between.0 ++ after → items_from source next ≡ behind_first after → BetweenItems source next
+    go : (after : List Item) → items source ≡ between.0 ++ after → items_from source next ≡ after_first_item after → BetweenItems source next
     go [] b f = (between.0, b ∙ ap (λ l. between.0 ++ l) (sym f))
     go (item ∷ after) b f = (between.0 ++ item ∷ [], b ∙ sym (append_assoc between.0 (item ∷ []) after) ∙ ap (λ l. (between.0 ++ item ∷ []) ++ l) (sym f))
 

@@ -41,7 +41,7 @@ pub data State : Type 0 where
   -- in a word of capital letters
   Capital : Part → State
   -- an identifier must follow `:` in a name or `/` in a path
-  Behind : Package → State
+  After : Package → State
   -- the first digit of a version must follow
   Version : Package → State
   -- in the first number of a version
@@ -79,13 +79,13 @@ class_of b =
     else (if nat_eq b semicolon || (nat_eq b open_brace || (nat_eq b close_brace || (nat_eq b equals_sign || (nat_eq b open_parenthesis || (nat_eq b close_parenthesis || (nat_eq b less_than_sign || (nat_eq b underscore || (nat_eq b open_bracket || (nat_eq b close_bracket || (nat_eq b comma)))))))))) then OtherSymbol
     else Other))))))))))))
 
-abbrev pub behind_word_of : Part → Class → State
-behind_word_of part Dash = Joined part
-behind_word_of First Colon = Behind Name
-behind_word_of (Later Name) Colon = Behind Name
-behind_word_of (Later kind) Slash = Behind Path
-behind_word_of (Later kind) At = Version kind
-behind_word_of part class = Dead
+abbrev pub after_word_of : Part → Class → State
+after_word_of part Dash = Joined part
+after_word_of First Colon = After Name
+after_word_of (Later Name) Colon = After Name
+after_word_of (Later kind) Slash = After Path
+after_word_of (Later kind) At = Version kind
+after_word_of part class = Dead
 
 abbrev pub step_of : State → Class → State
 step_of Start Lower = Small First
@@ -103,13 +103,13 @@ step_of (Joined part) Lower = Small part
 step_of (Joined part) Upper = Capital part
 step_of (Small part) Lower = Small part
 step_of (Small part) Digit = Small part
-step_of (Small part) class = behind_word_of part class
+step_of (Small part) class = after_word_of part class
 step_of (Capital part) Upper = Capital part
 step_of (Capital part) Digit = Capital part
-step_of (Capital part) class = behind_word_of part class
-step_of (Behind kind) Lower = Small (Later kind)
-step_of (Behind kind) Upper = Capital (Later kind)
-step_of (Behind kind) Percent = Joined (Later kind)
+step_of (Capital part) class = after_word_of part class
+step_of (After kind) Lower = Small (Later kind)
+step_of (After kind) Upper = Capital (Later kind)
+step_of (After kind) Percent = Joined (Later kind)
 step_of (Version kind) Digit = Digits kind
 step_of (Digits kind) Digit = Digits kind
 step_of (Digits kind) Dot = Point kind
@@ -170,8 +170,8 @@ states =
     ∷ Joined First
     ∷ Joined (Later Name)
     ∷ Joined (Later Path)
-    ∷ Behind Name
-    ∷ Behind Path
+    ∷ After Name
+    ∷ After Path
     ∷ Version Name
     ∷ Version Path
     ∷ Point Name

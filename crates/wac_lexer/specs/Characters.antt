@@ -43,8 +43,8 @@ refused_from place (c ∷ cs) =
     elim (fault_of c) [ Some fault ↦ Some (fault, span place (len_utf8 c)) | None ↦ refused_from (place + len_utf8 c) cs ]
 
 -- the first rejected character of a source that does not come before a place
-abbrev pub refused_behind : List ℕ → ℕ → Option (Error × Span)
-refused_behind source place = refused_from place (chars (drop place source))
+abbrev pub refused_after : List ℕ → ℕ → Option (Error × Span)
+refused_after source place = refused_from place (chars (drop place source))
 
 -- the first rejected character of a text
 abbrev pub refused : List ℕ → Option (Error × Span)
@@ -54,8 +54,8 @@ refused text = refused_from 0 (chars text)
 pub record IsFirstRefused (text : List ℕ) (fault : Error) (at : Span) : Type 0 where
   pub before : List ℕ
   pub character : ℕ
-  pub behind : List ℕ
-  pub stands : chars text ≡ before ++ character ∷ behind
+  pub after : List ℕ
+  pub stands : chars text ≡ before ++ character ∷ after
   pub passed : AllByRecursion (λ c. fault_of c ≡ None) before
   pub is : fault_of character ≡ Some fault
   pub place : at ≡ span (sum_by len_utf8 before) (len_utf8 character)

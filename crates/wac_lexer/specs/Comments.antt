@@ -23,14 +23,14 @@ pub data Inside : List ℕ → List ℕ → Type 0 where
   byte : {b : ℕ} {text rest : List ℕ} → opens (b ∷ text) ≡ false → closes (b ∷ text) ≡ false → Inside text rest → Inside (b ∷ text) rest
 
 -- The same, computed: what follows the ends of the n comments in which a text begins.
-abbrev pub behind : ℕ → List ℕ → Option (List ℕ)
-behind zero text = Some text
-behind (suc n) [] = None
-behind (suc n) (a ∷ []) = None
-behind (suc n) (a ∷ b ∷ text) =
+abbrev pub after : ℕ → List ℕ → Option (List ℕ)
+after zero text = Some text
+after (suc n) [] = None
+after (suc n) (a ∷ []) = None
+after (suc n) (a ∷ b ∷ text) =
     elim (nat_eq a slash && nat_eq b asterisk) [
-      | true ↦ behind (suc (suc n)) text
-      | false ↦ elim (nat_eq a asterisk && nat_eq b slash) [ true ↦ behind n text | false ↦ behind (suc n) (b ∷ text) ]
+      | true ↦ after (suc (suc n)) text
+      | false ↦ elim (nat_eq a asterisk && nat_eq b slash) [ true ↦ after n text | false ↦ after (suc n) (b ∷ text) ]
     ]
 
 -- space, TAB, CR and LF
@@ -46,7 +46,7 @@ line_len text = prefix_len is_not_line_end text
 
 -- how many bytes the whole block comment takes that begins a text, and 0 where it has no end
 abbrev pub block_len : List ℕ → ℕ
-block_len text = elim (behind 1 (drop 2 text)) [ Some rest ↦ length text - length rest | None ↦ 0 ]
+block_len text = elim (after 1 (drop 2 text)) [ Some rest ↦ length text - length rest | None ↦ 0 ]
 
 -- how many bytes the blank or the whole comment takes that begins a text, and 0 where none does
 abbrev pub part_len : List ℕ → ℕ

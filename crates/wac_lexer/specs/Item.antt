@@ -18,17 +18,17 @@ pub record Item : Type 0 where
   pub docs : List Doc
 
 -- what a call returns of an item
-abbrev pub Handed : Type 0
-Handed = Option (Result Token Error × Span)
+abbrev pub NextToken : Type 0
+NextToken = Option (Result Token Error × Span)
 
 -- of the first item
-abbrev pub handed : List Item → Handed
-handed [] = None
-handed (item ∷ items) = Some (item.token, item.span)
+abbrev pub next_token : List Item → NextToken
+next_token [] = None
+next_token (item ∷ items) = Some (item.token, item.span)
 
-abbrev pub behind_first : List Item → List Item
-behind_first [] = []
-behind_first (item ∷ items) = items
+abbrev pub after_first_item : List Item → List Item
+after_first_item [] = []
+after_first_item (item ∷ items) = items
 
 -- what the first item is, where there is one
 abbrev pub OnFirst : List Item → (Item → Type 0) → Type 0

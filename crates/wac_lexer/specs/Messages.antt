@@ -79,7 +79,7 @@ name_of tokens.At = codes "`@`"
 
 -- a text with the character's code in it, in lower case hexadecimal
 abbrev pub with_code : String → ℕ → String → List ℕ
-with_code before c behind = codes before ++ (digits 16 false c ++ codes behind)
+with_code before c after = codes before ++ (digits 16 false c ++ codes after)
 
 -- what a message says of a fault
 abbrev pub text_of : Error → List ℕ

@@ -2,7 +2,7 @@
 use Rattle.std.specs.Prelude.{refl, codes, ℕ, ◌≡◌, ◌+◌, ◌-◌, ◌≤◌, ◌<◌, ◌^◌, List, [], ◌++◌, length, take, drop, MatchOption, IfSome, Some, None, if◌then◌else◌, ◌==◌}
 use Rattle.std.specs.Str.{IsCharBoundary}
 use Rattle.wac_lexer.specs.Span.{Span, span, end_of}
-use Rattle.wac_lexer.specs.Item.{Item, Handed, handed, behind_first, OnFirst}
+use Rattle.wac_lexer.specs.Item.{Item, NextToken, next_token, after_first_item, OnFirst}
 use Rattle.wac_lexer.specs.Items.{items_from, items}
 
 -- A source, the place up to which it was read, the span of the last item that `next` gave, and how many scans there
@@ -54,9 +54,9 @@ shown_at_the_end : shown (codes "abc") (span 2 1) ≡ span 1 1
 shown_at_the_end = refl
 
 -- a call of `next` gave this out of the first of the items left, and left the others
-pub record Nexts (old : Reading) (item : Handed) (new : Reading) : Type 0 where
-  pub gives : item ≡ handed (left old)
-  pub rest : left new ≡ behind_first (left old)
+pub record Nexts (old : Reading) (item : NextToken) (new : Reading) : Type 0 where
+  pub gives : item ≡ next_token (left old)
+  pub rest : left new ≡ after_first_item (left old)
   pub source : new.source ≡ old.source
   pub moves : old.place ≤ new.place
   pub place : MatchOption item (new.place ≡ length old.source) (λ x. new.place ≡ end_of x.1)
@@ -66,7 +66,7 @@ pub record Nexts (old : Reading) (item : Handed) (new : Reading) : Type 0 where
   pub text : OnFirst (left old) (λ x. x.text ≡ slice old.source x.span)
   pub scans : new.scans ≤ answered new + 2
   pub once : new.scans ≤ old.scans + 1
-  pub ended : behind_first (left old) ≡ [] → new.scans ≡ old.scans
+  pub ended : after_first_item (left old) ≡ [] → new.scans ≡ old.scans
 
 -- the place is between two items of the source: some of them are before it, and the others after
 abbrev pub BetweenItems : List ℕ → ℕ → Type 0
@@ -79,22 +79,22 @@ pub record IsWithin (source : List ℕ) (place : ℕ) (last : Span) : Type 0 whe
   pub last_ends : end_of last ≤ length source
 
 -- what a scan found: the first of these items of a source, or that there is none
-pub record IsFound (source : List ℕ) (items : List Item) (found : Handed) : Type 0 where
-  pub is : found ≡ handed items
+pub record IsFound (source : List ℕ) (items : List Item) (found : NextToken) : Type 0 where
+  pub is : found ≡ next_token items
   pub slices : IfSome found (λ x. Slices source x.1)
   pub fits : IfSome found (λ x. end_of x.1 < 2 ^ 64)
 
 -- the items after one that was found: none after the end
-abbrev pub items_behind : List ℕ → Handed → List Item
-items_behind source None = []
-items_behind source (Some x) = items_from source (end_of x.1)
+abbrev pub items_after : List ℕ → NextToken → List Item
+items_after source None = []
+items_after source (Some x) = items_from source (end_of x.1)
 
 -- what every lexer keeps of the items after its place: the next two, and how many scans there were at most
-pub record IsAhead (source : List ℕ) (place : ℕ) (first second : Handed) (scans : ℕ) : Type 0 where
+pub record IsAhead (source : List ℕ) (place : ℕ) (first second : NextToken) (scans : ℕ) : Type 0 where
   pub first_is : IsFound source (items_from source place) first
-  pub second_is : IsFound source (items_behind source first) second
+  pub second_is : IsFound source (items_after source first) second
   pub bound : scans ≤ items_before source place + 2
 
 -- what every lexer keeps
-abbrev pub Keeps : Reading → Handed → Handed → Type 0
+abbrev pub Keeps : Reading → NextToken → NextToken → Type 0
 Keeps r first second = IsWithin r.source r.place r.last × IsAhead r.source r.place first second r.scans

@@ -94,9 +94,9 @@ static STEPS: [u8; 432] = [
     2, 3, 26, 26, 26, 26, 26, 26, 26, 26, 26, 26, 26, 26, 26, 26,
     // 16: Joined (Later Path)
     6, 7, 26, 26, 26, 26, 26, 26, 26, 26, 26, 26, 26, 26, 26, 26,
-    // 17: Behind Name
+    // 17: After Name
     2, 3, 26, 15, 26, 26, 26, 26, 26, 26, 26, 26, 26, 26, 26, 26,
-    // 18: Behind Path
+    // 18: After Path
     6, 7, 26, 16, 26, 26, 26, 26, 26, 26, 26, 26, 26, 26, 26, 26,
     // 19: Version Name
     26, 26, 4, 26, 26, 26, 26, 26, 26, 26, 26, 26, 26, 26, 26, 26,
@@ -157,7 +157,7 @@ fn front(len: usize, state: usize) -> Option<(usize, Shape)>
     }
 }
 
-/// How many bytes come before the one that no text of any shape continues with, and the state behind them.
+/// How many bytes come before the one that no text of any shape continues with, and the state after them.
 fn walk(bytes: &[u8]) -> (usize, usize)
     ensures { result.1 < end_count → found_at result.0 result.1 ≡ longest bytes.now (length bytes.now) }
 {
@@ -172,7 +172,7 @@ fn walk(bytes: &[u8]) -> (usize, usize)
     (bytes.len(), state)
 }
 
-/// The longest prefix that has a shape, where the walk goes on behind it, as in `a:b/` or in `"` without an end.
+/// The longest prefix that has a shape, where the walk goes on after it, as in `a:b/` or in `"` without an end.
 fn longest_ended(bytes: &[u8]) -> Option<(usize, Shape)>
     ensures { result ≡ longest bytes.now (length bytes.now) }
 {

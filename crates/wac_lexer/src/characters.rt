@@ -2,7 +2,7 @@
 ghost use Rattle.std.specs.Prelude.{◌≡◌, ◌≤◌, true, length, take};
 ghost use Rattle.std.specs.List.{list_all, prefix_len};
 ghost use Rattle.std.specs.Str.{IsCharBoundary};
-ghost use Rattle.wac_lexer.specs.Characters.{fault_of, is_plain, refused, refused_behind};
+ghost use Rattle.wac_lexer.specs.Characters.{fault_of, is_plain, refused, refused_after};
 
 use crate::error::Error;
 use crate::span::SourceSpan;
@@ -87,7 +87,7 @@ fn past_plain(source: &str, place: usize) -> usize
     requires { IsCharBoundary source.now place }
     ensures within { IsCharBoundary source.now result }
     ensures onward { place ≤ result }
-    ensures passes { refused_behind source.now result ≡ refused_behind source.now place }
+    ensures passes { refused_after source.now result ≡ refused_after source.now place }
 {
     let (_, rest) = source.split_at(place);
     place + plain_len(rest.as_bytes())

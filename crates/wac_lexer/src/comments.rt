@@ -2,7 +2,7 @@
 ghost use Rattle.std.specs.Prelude.{true, ◌≡◌, ◌↔◌, ◌≤◌, ◌<◌, ◌-◌, ◌+◌, ℕ, List, Some, None, length, drop, MatchOption};
 ghost use Rattle.std.specs.List.{prefix_len};
 ghost use Rattle.wac_lexer.specs.Ascii.{slash};
-ghost use Rattle.wac_lexer.specs.Comments.{Inside, behind, opens, closes, begins, line_len, block_len, part_len, gap, is_blank, is_not_line_end};
+ghost use Rattle.wac_lexer.specs.Comments.{Inside, after, opens, closes, begins, line_len, block_len, part_len, gap, is_blank, is_not_line_end};
 
 pub(crate) fn opens(bytes: &[u8]) -> bool
     ensures { result ≡ opens bytes.now }
@@ -18,7 +18,7 @@ fn closes(bytes: &[u8]) -> bool
 
 /// The end of the comment in which the bytes begin: how many bytes up to there.
 pub(crate) fn comment_end(bytes: &[u8]) -> Option<usize>
-    ensures ends { MatchOption result (behind 1 bytes.now ≡ None) (λ n. behind 1 bytes.now ≡ Some (drop n bytes.now)) }
+    ensures ends { MatchOption result (after 1 bytes.now ≡ None) (λ n. after 1 bytes.now ≡ Some (drop n bytes.now)) }
     ensures within { MatchOption result (Unit {0}) (λ n. n ≤ length bytes.now) }
 {
     let mut depth = 1usize;

@@ -2,7 +2,7 @@
 ghost use Rattle.std.specs.Prelude.{◌≡◌, ◌↔◌, ℕ, IsTrue, List, Result, length, [], true, None, Some};
 ghost use Rattle.std.specs.Str.{IsUtf8};
 ghost use Rattle.wac_lexer.specs.Characters.{FindsRefused, refused};
-ghost use Rattle.wac_lexer.specs.Comments.{Inside, behind, gap};
+ghost use Rattle.wac_lexer.specs.Comments.{Inside, after, gap};
 ghost use Rattle.wac_lexer.specs.First.{FindsFirst};
 ghost use Rattle.wac_lexer.specs.Gap.{DocsStandInGap, IsLongestGap};
 ghost use Rattle.wac_lexer.specs.Items.{items, first_item};
@@ -24,7 +24,7 @@ pub fn patterns_are_decided()
 
 /// Counting how deeply comments nest finds the end that the pieces of comments define.
 pub fn comments_are_pieces()
-    ensures { (text rest : List ℕ) → (behind 1 text ≡ Some rest) ↔ Inside text rest }
+    ensures { (text rest : List ℕ) → (after 1 text ≡ Some rest) ↔ Inside text rest }
 {}
 
 /// What is skipped before an item is the longest gap: blanks, line comments and block comments.

@@ -54,7 +54,7 @@ impl<'a> Lexer<'a> {
     ghost use Rattle.std.specs.Prelude.{◌≡◌, ◌<◌, ◌≤◌, ◌+◌, ◌^◌, ◌↔◌, ◌++◌, length, List, None, IsTrue, MatchResult, IfOk, IfSome, Some};
     ghost use Rattle.std.specs.Str.{IsCharBoundary};
     ghost use Rattle.wac_lexer.specs.Characters.{refused};
-    ghost use Rattle.wac_lexer.specs.Item.{Item, handed, behind_first};
+    ghost use Rattle.wac_lexer.specs.Item.{Item, next_token, after_first_item};
     ghost use Rattle.wac_lexer.specs.Items.{items};
     ghost use Rattle.wac_lexer.specs.Reading.{Slices, shown, slice, left, answered};
     ghost use Rattle.wac_lexer.specs.Span.{span, end_of};
@@ -91,7 +91,7 @@ impl<'a> Lexer<'a> {
     /// The item that `next` will give, which stays.
     #[tactic(auto, unfolding(crate::specs::Reading::left))]
     pub fn peek(&self) -> Option<(LexerResult<Token>, SourceSpan)>
-        ensures gives { result ≡ handed (left self.now) }
+        ensures gives { result ≡ next_token (left self.now) }
         ensures slices { IfSome result (λ item. Slices self.now.source item.1) }
         ensures fits { IfSome result (λ item. end_of item.1 < 2 ^ 64) }
         ensures scans { self.now.scans ≤ answered self.now + 2 }
@@ -102,7 +102,7 @@ impl<'a> Lexer<'a> {
     /// The item after the next one. Both stay.
     #[tactic(auto, unfolding(crate::specs::Reading::left))]
     pub fn peek2(&self) -> Option<(LexerResult<Token>, SourceSpan)>
-        ensures gives { result ≡ handed (behind_first (left self.now)) }
+        ensures gives { result ≡ next_token (after_first_item (left self.now)) }
         ensures slices { IfSome result (λ item. Slices self.now.source item.1) }
         ensures fits { IfSome result (λ item. end_of item.1 < 2 ^ 64) }
         ensures scans { self.now.scans ≤ answered self.now + 2 }
@@ -203,7 +203,7 @@ impl Iterator for Lexer<'_> {
                 self.place = span.offset() + span.len();
                 self.last = span;
                 self.first = self.second;
-                self.second = self.scanner.scan_behind(self.first);
+                self.second = self.scanner.scan_after(self.first);
                 Some((found, span))
             }
             None => {

@@ -80,7 +80,7 @@ struct Replaced<'v, 'a> {
     end: usize,
 }
 
-/// What is put behind a text: a blank comes first behind a colon, which would make it the name of a package otherwise,
+/// What is put after a text: a blank comes first after a colon, which would make it the name of a package otherwise,
 /// together with the word before.
 fn insertion_after(alloc: Global, front: &str, text: &str) -> Result<String, AllocError> {
     if front.ends_with(':') {

@@ -47,7 +47,7 @@ fn block(alloc: Global, lines: &str) -> Result<String, AllocError> {
     Ok(block)
 }
 
-/// What is said, in a format: the declaration, and behind an empty line its documentation.
+/// What is said, in a format: the declaration, and after an empty line its documentation.
 fn said(alloc: Global, hover: &Hover, markup: Markup) -> Result<String, AllocError> {
     let lines = hover.declaration.as_str();
     let mut said = match markup {

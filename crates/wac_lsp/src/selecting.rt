@@ -130,7 +130,7 @@ fn offsets_of(
     Ok(offsets)
 }
 
-/// What is around places of a text. Behind a rejected character it is the whole text alone.
+/// What is around places of a text. After a rejected character it is the whole text alone.
 pub(crate) fn selections(
     alloc: Global,
     text: &str,

@@ -52,7 +52,7 @@ impl Walk {
         }
     }
 
-    /// Notes where the next statement begins, if this is its first piece. A comment behind the statement before is not.
+    /// Notes where the next statement begins, if this is its first piece. A comment after the statement before is not.
     fn note(&mut self, piece: &Piece<'_>) {
         let begins = piece.breaks > 0 || !piece.is_comment();
         if begins && self.first.is_none() {
@@ -83,7 +83,7 @@ impl Walk {
     }
 }
 
-/// The statements of a text with these pieces and so many bytes, and what comes behind the last.
+/// The statements of a text with these pieces and so many bytes, and what comes after the last.
 pub(crate) fn statements(
     alloc: Global,
     pieces: &[Piece<'_>],

@@ -206,7 +206,7 @@ impl<'q> Matches<'q> {
     }
 }
 
-/// What open documents declare under names that have a text in them, and behind it what those declare that aren't open.
+/// What open documents declare under names that have a text in them, and after it what those declare that aren't open.
 pub(crate) fn workspace_symbols(
     alloc: Global,
     open: &[Document],

@@ -1,7 +1,7 @@
 //! The messages of the server.
 //!
 //! An object's members are sorted, whatever the order in which they are given. So an owned value is given first, and no
-//! way out behind it has to drop it, which each would have to be proved to do.
+//! way out after it has to drop it, which each would have to be proved to do.
 ghost use Rattle.std.specs.Prelude.{◌≡◌, Some, None, IfOk, codes, option_map, string_bytes};
 ghost use Rattle.serde_json.specs.Find.{get};
 ghost use Rattle.serde_json.specs.View.{view};

@@ -12,7 +12,7 @@ use Rattle.wac_lsp_names.specs.Occurrences.{AreOccurrences, IsFoundAt}
 abbrev pub IsWritten : List ℕ → List ℕ → Type 0
 IsWritten name text = without_percent text ≡ name
 
--- a text is a name, something behind it, and another name
+-- a text is a name, something after it, and another name
 abbrev pub Joins : List ℕ → List ℕ → List ℕ → List ℕ → Type 0
 Joins first between second text =
     (a : List ℕ) × (b : List ℕ) × (text ≡ a ++ (between ++ b)) × IsWritten first a × IsWritten second b
@@ -47,7 +47,7 @@ IsEditOf source old new e false = Keeps source old e
 abbrev pub IsEdit : List ℕ → List ℕ → List ℕ → Edit → Type 0
 IsEdit source old new e = Slices source e.span × IsEditOf source old new e e.renames
 
--- each edit begins where the one before ends or behind that
+-- each edit begins where the one before ends or after that
 abbrev pub AreEdits : List ℕ → List ℕ → List ℕ → ℕ → List Edit → Type 0
 AreEdits source old new from [] = Unit {0}
 AreEdits source old new from (e ∷ es) =

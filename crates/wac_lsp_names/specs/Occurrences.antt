@@ -15,7 +15,7 @@ back by at = span (at.offset - by) at.len
 abbrev pub at_of : ℕ → Span → List Span → Span
 at_of offset bound used = option_map_or (λ s. s) (find (touches offset) used) bound
 
--- a span lies in the source, and an offset is in it or just behind it
+-- a span lies in the source, and an offset is in it or just after it
 abbrev pub IsNameAt : List ℕ → ℕ → Span → Type 0
 IsNameAt source offset at = Slices source at × IsTrue (touches offset at)
 

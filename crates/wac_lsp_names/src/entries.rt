@@ -202,7 +202,7 @@ fn push_used<'r>(reading: &'r Reading, entries: &mut Vec<Entry<'r>>) -> Result<(
     Ok(())
 }
 
-/// The number of the name whose scope is behind an import.
+/// The number of the name whose scope is after an import.
 fn scope_of_import(reading: &Reading, number: usize) -> Option<usize> {
     let parts = import_parts(reading, number)?;
     if is_written_out(reading, parts.ty) {
@@ -212,7 +212,7 @@ fn scope_of_import(reading: &Reading, number: usize) -> Option<usize> {
     }
 }
 
-/// The number of the name whose scope is behind a value.
+/// The number of the name whose scope is after a value.
 pub(crate) fn scope_of(reading: &Reading, from: Origin) -> Option<usize> {
     match from {
         Origin::Bound(number) if reading.kind(number) == Some(Kind::Import) => {

@@ -147,7 +147,7 @@ impl Renaming<'_> {
         Ok(Some(edit_at(alloc, lexed.span, name.as_str(), renames, around)?))
     }
 
-    /// An edit that puts the new name in the place of an identifier, and keeps the old one after `as` behind it.
+    /// An edit that puts the new name in the place of an identifier, and keeps the old one after `as` after it.
     fn put_as_old(&self, alloc: Global, token: usize) -> Result<Option<Edit>, Stopped> {
         let old = identifier(alloc, self.old)?;
         let after = format!(in alloc; " as {old}")?;

@@ -48,7 +48,7 @@ fn outdented(line: &str, indent: usize) -> &str {
     line.get(cut..).unwrap_or(line).trim_end()
 }
 
-/// Adds a line behind others.
+/// Adds a line after others.
 fn push_line(found: &mut String, line: &str) -> Result<(), AllocError> {
     if !found.is_empty() {
         found.push('\n')?;
@@ -76,8 +76,8 @@ fn lines_of(alloc: Global, reading: &Reading, span: SourceSpan) -> Result<String
     Ok(found)
 }
 
-/// A lexer of a text behind so many of its items.
-fn lexer_behind(text: &str, count: usize) -> Option<Lexer<'_>> {
+/// A lexer of a text after so many of its items.
+fn lexer_after(text: &str, count: usize) -> Option<Lexer<'_>> {
     let Ok(mut lexer) = Lexer::new(text) else {
         return None;
     };
@@ -98,7 +98,7 @@ fn push_docs(found: &mut String, docs: &str) -> Result<(), AllocError> {
 /// The documentation before the token of a number.
 pub(crate) fn docs_before(alloc: Global, text: &str, token: usize) -> Result<String, AllocError> {
     let mut found = String::new(alloc);
-    let Some(lexer) = lexer_behind(text, token) else {
+    let Some(lexer) = lexer_after(text, token) else {
         return Ok(found);
     };
     let docs = lexer.comments(alloc)?;

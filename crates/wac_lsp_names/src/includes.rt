@@ -13,7 +13,7 @@ struct Inclusion {
     owner: usize,
     /// The number of the name of the world that is included.
     world: usize,
-    /// The brace behind `with`.
+    /// The brace after `with`.
     with: Option<usize>,
 }
 
@@ -39,8 +39,8 @@ fn is_renamed(reading: &Reading, with: Option<usize>, word: &str) -> bool {
         return false;
     };
     let tokens = reading.tokens.as_slice();
-    let behind = brace.saturating_add(1);
-    for token in behind..tokens.len() {
+    let after = brace.saturating_add(1);
+    for token in after..tokens.len() {
         if is_token(tokens, token, Token::CloseBrace) {
             return false;
         }

@@ -117,10 +117,10 @@ pub(crate) fn number_at(tokens: &[Lexed], offset: usize) -> Option<usize> {
     count.checked_sub(1)
 }
 
-/// The number of the first semicolon at a number or behind it that is in no brackets.
+/// The number of the first semicolon at a number or after it that is in no brackets.
 pub(crate) fn semicolon_from(tokens: &[Lexed], number: usize) -> Option<usize> {
     let rest = tokens.get(number..)?;
-    let behind = rest.iter().position(|lexed| lexed.token == Token::Semicolon
+    let after = rest.iter().position(|lexed| lexed.token == Token::Semicolon
         && lexed.opener.is_none())?;
-    Some(number.saturating_add(behind))
+    Some(number.saturating_add(after))
 }

@@ -33,7 +33,7 @@ fn is_written(text: &str, name: &str) -> bool
     is_same(without_percent(text), name)
 }
 
-/// Whether a text is a name, something behind it, and another name.
+/// Whether a text is a name, something after it, and another name.
 #[tactic(auto, using(std::proofs::lemmas::Str::Pattern::split_text_parts))]
 fn joins(text: &str, first: &str, between: &str, second: &str) -> bool
     ensures { IsTrue result → Joins first.now between.now second.now text.now }
@@ -99,7 +99,7 @@ fn is_edit(change: &Change<'_>, edit: &Edit) -> bool
     }
 }
 
-/// Whether edits change names of a source as they say, each behind the one before.
+/// Whether edits change names of a source as they say, each after the one before.
 fn are_edits(change: &Change<'_>, edits: &[Edit]) -> bool
     ensures { IsTrue result → AreEdits change.now.source.now change.now.old.now change.now.new.now 0 edits.now }
 {

@@ -64,7 +64,7 @@ pub(crate) fn identifier(alloc: Global, name: &str) -> Result<String, AllocError
     format!(in alloc; "{sign}{name}")
 }
 
-/// The part of a name behind its last `/` and before a version, by which identifiers find it.
+/// The part of a name after its last `/` and before a version, by which identifiers find it.
 pub(crate) fn short_name(name: &str) -> &str {
     let text = match name.rsplit_once('/') {
         Some((_, last)) => last,

@@ -6,7 +6,7 @@ use wac_lexer::Lexer;
 const MOST: usize = 200;
 
 /// The tokens of a part of a text in one line, without comments: where something is between two there is a blank. A part
-/// of more than 200 bytes is cut behind a token, and ends with `...` then. The error is that memory ran out.
+/// of more than 200 bytes is cut after a token, and ends with `...` then. The error is that memory ran out.
 pub fn in_one_line(alloc: Global, text: &str) -> Result<String, AllocError> {
     let mut line = String::new(alloc);
     let Ok(mut lexer) = Lexer::new(text) else {

@@ -5,7 +5,7 @@ use wac_comments_layout::Piece;
 /// A part of a text that can be folded.
 #[derive(Clone, Copy, Debug, PartialEq, Eq)]
 pub struct Fold {
-    /// Where it begins, in bytes: behind a brace, or with a comment.
+    /// Where it begins, in bytes: after a brace, or with a comment.
     pub start: usize,
     /// Where it ends: before the brace that closes it, or with the comment.
     pub end: usize,

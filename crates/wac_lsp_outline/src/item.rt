@@ -32,7 +32,7 @@ impl Body {
         matches!(self, Body::Record | Body::Choice)
     }
 
-    /// The kind of what a name at the beginning declares, with this token behind it.
+    /// The kind of what a name at the beginning declares, with this token after it.
     pub(crate) fn labelled(self, next: Option<Token>) -> Option<Kind> {
         match self {
             Body::Interface if next == Some(Token::Colon) => Some(Kind::Function),
@@ -44,7 +44,7 @@ impl Body {
         }
     }
 
-    /// The kind of what a keyword in it declares by the name behind it, with this token behind that.
+    /// The kind of what a keyword in it declares by the name after it, with this token after that.
     pub(crate) fn declared(self, keyword: Token, next: Option<Token>) -> Option<Kind> {
         match keyword {
             Token::InterfaceKeyword => Some(Kind::Interface),
@@ -63,7 +63,7 @@ impl Body {
     }
 }
 
-/// The kind of what a world imports or exports by a name with this token behind it: without a type it is an interface.
+/// The kind of what a world imports or exports by a name with this token after it: without a type it is an interface.
 fn item_kind(next: Option<Token>) -> Kind {
     if next == Some(Token::Colon) {
         Kind::Binding
@@ -72,7 +72,7 @@ fn item_kind(next: Option<Token>) -> Kind {
     }
 }
 
-/// Whether a keyword begins a statement or an item, behind this token. `interface` behind a colon is a type.
+/// Whether a keyword begins a statement or an item, after this token. `interface` after a colon is a type.
 pub(crate) fn begins_item(token: Token, before: Option<Token>) -> bool {
     match token {
         Token::InterfaceKeyword => before != Some(Token::Colon),
@@ -149,7 +149,7 @@ impl Item {
         }
     }
 
-    /// Where it is said what it is: nothing behind its name, where it isn't.
+    /// Where it is said what it is: nothing after its name, where it isn't.
     pub(crate) fn detail(&self, name: SourceSpan) -> SourceSpan {
         match self.detail {
             Some(detail) => detail,
@@ -162,7 +162,7 @@ impl Item {
         self.is_described = true;
     }
 
-    /// Takes a token behind the name. `is_member` says whether that is one of a world.
+    /// Takes a token after the name. `is_member` says whether that is one of a world.
     pub(crate) fn take(&mut self, token: Token, span: SourceSpan, is_member: bool) {
         match token {
             Token::OpenParen | Token::OpenAngle | Token::OpenBracket => {

@@ -3,7 +3,7 @@
 //! ```text
 //! let text = "interface i {\n  f: func();\n}\n";
 //! let symbols = outline(alloc, text)?;      // `i`, and in it `f`, whose detail is `func()`
-//! let folds = folds(alloc, &pieces)?;       // from behind the one brace to the other
+//! let folds = folds(alloc, &pieces)?;       // from after the one brace to the other
 //! ```
 #![tactic(auto)]
 

@@ -43,7 +43,7 @@ pub struct Symbol {
     pub end: usize,
     /// How many declarations are around it.
     pub depth: usize,
-    /// Where it is said what it is: from behind the name, and a colon or `=` there, up to a brace or the end. It is empty
+    /// Where it is said what it is: from after the name, and a colon or `=` there, up to a brace or the end. It is empty
     /// where nothing is said.
     pub detail: SourceSpan,
 }

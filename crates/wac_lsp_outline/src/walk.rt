@@ -105,7 +105,7 @@ impl Outliner {
         }
     }
 
-    /// The kind of what a token behind the keyword of an item declares, if it is a name. A world has paths for names too.
+    /// The kind of what a token after the keyword of an item declares, if it is a name. A world has paths for names too.
     fn second_kind(&self, item: &Item, token: Token, next: Option<Token>) -> Option<Kind> {
         let keyword = item.keyword?;
         let is_name = token == Token::Ident
@@ -186,7 +186,7 @@ impl Outliner {
         }
     }
 
-    /// Takes the next token, with the one behind it.
+    /// Takes the next token, with the one after it.
     fn take(
         &mut self,
         token: Token,
@@ -254,7 +254,7 @@ fn symbols(alloc: Global, text: &str) -> Result<Vec<Symbol>, AllocError> {
     Ok(outliner.found())
 }
 
-/// What the tokens of a text declare, in order: what is within a declaration comes right behind it, with a depth of one
+/// What the tokens of a text declare, in order: what is within a declaration comes right after it, with a depth of one
 /// more. Nothing is found in a text with a rejected character. The error is that memory ran out.
 pub fn outline(alloc: Global, text: &str) -> Result<Vec<Symbol>, AllocError>
     // The name of each lies in its declaration, and that in the text.

@@ -21,4 +21,4 @@ pub record IsClamped (text : List ℕ) (unit : ColumnUnit) (place : Place) (at :
   pub in_line : place.line < length (line_starts text)
       → (column : ℕ) × IsClampedColumn unit (line text place.line) place.column column
       × Denotes text unit (record { line = place.line; column = column }) at
-  pub behind : length (line_starts text) ≤ place.line → at ≡ length text
+  pub after : length (line_starts text) ≤ place.line → at ≡ length text

@@ -37,10 +37,10 @@ fn spliced(
         return Ok(None);
     }
     let (before, _) = text.split_at(from);
-    let (_, behind) = text.split_at(to);
+    let (_, rest) = text.split_at(to);
     let mut after = String::from_str(alloc, before)?;
     after.push_str(new)?;
-    after.push_str(behind)?;
+    after.push_str(rest)?;
     Ok(Some(after))
 }
 

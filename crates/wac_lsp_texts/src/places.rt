@@ -79,13 +79,13 @@ impl<'a> Places<'a> {
     /// The line in which an offset lies, from its start on.
     fn line_of(&self, offset: usize) -> usize {
         let mut first = 0usize;
-        let mut behind = self.lines.count();
+        let mut after = self.lines.count();
         for _ in 0..usize::BITS {
-            let middle = first.saturating_add(behind.saturating_sub(first) / 2);
+            let middle = first.saturating_add(after.saturating_sub(first) / 2);
             if self.start_of(middle) <= offset {
                 first = middle;
             } else {
-                behind = middle;
+                after = middle;
             }
         }
         first

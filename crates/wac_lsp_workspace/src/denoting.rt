@@ -38,7 +38,7 @@ fn place_in(origin: Origin<'_>) -> Place<'_> {
 }
 
 impl<'n> Level<'n> {
-    /// What is behind a name that is written.
+    /// What is after a name that is written.
     fn after(self, package: &'n Package, written: &str) -> Option<Level<'n>> {
         let (name, kind) = self.names.get_index(place_of(self.names, written)?)?;
         let place = self.place.after(name.as_str());
@@ -63,7 +63,7 @@ impl<'n> Level<'n> {
     }
 }
 
-/// What is behind names that are written, from the instances of an origin on, of which this is the package.
+/// What is after names that are written, from the instances of an origin on, of which this is the package.
 pub(crate) fn level_after<'n>(
     package: &'n Package,
     origin: Origin<'n>,
@@ -121,7 +121,7 @@ fn import_of<'n>(package: &'n Package, named: &'n str, written: &str) -> Option<
     imports_of(package, named)?.denoted(written)
 }
 
-/// What an export denotes, behind names that are written.
+/// What an export denotes, after names that are written.
 fn export_of<'n>(
     package: &'n Package,
     origin: Origin<'n>,

@@ -28,7 +28,7 @@ fn type_before(text: &str) -> Option<&str> {
     }
 }
 
-/// The keyword of a type behind this text.
+/// The keyword of a type after this text.
 fn keyword_at_end(text: &str) -> Option<&'static str> {
     let text = text.trim_end();
     for keyword in TYPES.as_slice() {
@@ -39,7 +39,7 @@ fn keyword_at_end(text: &str) -> Option<&'static str> {
     None
 }
 
-/// Adds a word to a line: behind a blank, but not within brackets at their ends, nor behind a last comma.
+/// Adds a word to a line: after a blank, but not within brackets at their ends, nor after a last comma.
 fn push_word(line: &mut String, word: &str) -> Result<(), AllocError> {
     if word.starts_with(')') {
         if line.ends_with(',') {

@@ -9,7 +9,7 @@
 //! let found = workspace.diagnose(alloc, path, text)?;                 // as `wacx check --packages` says it
 //! let declared = workspace.declaration_at(alloc, text, offset)?;      // of `new a:b`, of `a:b/i`, of `use a:b/i.{t}`, of `x.f`
 //! let described = workspace.described_at(alloc, text, offset)?;        // the same, and of components what is shown of them
-//! let names = workspace.names_at(alloc, text, offset)?;               // in `new a:b { `, behind `x.`, `new ` and `use `
+//! let names = workspace.names_at(alloc, text, offset)?;               // in `new a:b { `, after `x.`, `new ` and `use `
 //! let mended = workspace.mended(alloc, path, text)?;                  // what `diagnose` says, with edits that mend it
 //! let saved = workspace.saved_documents(alloc)?;                      // the documents of the folders, as their files have them
 //! ```

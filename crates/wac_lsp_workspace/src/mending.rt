@@ -41,8 +41,8 @@ fn is_of_name(code: &str) -> bool {
     )
 }
 
-/// The offset at which it is asked what can stand in place of a name: in that of a package, or in a path, behind the first
-/// colon, and in a string behind its quote.
+/// The offset at which it is asked what can stand in place of a name: in that of a package, or in a path, after the first
+/// colon, and in a string after its quote.
 fn asked_in(text: &str, name: SourceSpan) -> usize {
     let written = text_at(text, name);
     if written.starts_with('"') {
@@ -76,7 +76,7 @@ fn written_there(alloc: Global, name: &str, span: SourceSpan) -> Result<Cure, Al
     })
 }
 
-/// Goes over the tokens behind the name of a package, up to the brace that closes the arguments of its instance.
+/// Goes over the tokens after the name of a package, up to the brace that closes the arguments of its instance.
 #[derive(Clone, Copy)]
 struct Arguments {
     /// How many braces are open.
@@ -87,7 +87,7 @@ struct Arguments {
     front: &'static str,
 }
 
-/// What is written before `...` behind a token, within so many braces.
+/// What is written before `...` after a token, within so many braces.
 fn before_fill(token: Token, braces: usize) -> &'static str {
     match token {
         Token::Comma => " ",
@@ -184,7 +184,7 @@ impl Workspace {
     }
 
     /// What is wrong with a document of the folders, as `diagnose` says it, each with the edit that probably mends it, where
-    /// there is one: the name most like one that a package doesn't have, and `...` behind arguments of which one is missing.
+    /// there is one: the name most like one that a package doesn't have, and `...` after arguments of which one is missing.
     ///
     /// ```text
     /// workspace.mended(alloc, path, "package a:b; export new c:d { ... }.lgo;")?;     // write `log`, if c:d exports it

@@ -22,7 +22,7 @@ pub(crate) fn text_at(text: &str, span: SourceSpan) -> &str {
     text.get(span.offset()..end).unwrap_or("")
 }
 
-/// Whether an offset is at a span, or just behind it.
+/// Whether an offset is at a span, or just after it.
 pub(crate) fn is_at(span: SourceSpan, offset: usize) -> bool {
     span.offset() <= offset && offset <= span.offset().saturating_add(span.len())
 }

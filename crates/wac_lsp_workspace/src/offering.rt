@@ -56,7 +56,7 @@ pub(crate) fn sort_of(kind: ItemKind) -> Offered {
     }
 }
 
-/// The text of an id behind its last `/` and before `@`, and of any other name the name itself.
+/// The text of an id after its last `/` and before `@`, and of any other name the name itself.
 fn last_part(name: &str) -> &str {
     match name.rsplit_once('/') {
         Some((_, last)) => match last.split_once('@') {
@@ -426,7 +426,7 @@ impl Workspace {
     }
 
     /// The names of packages of the folders that can stand at an offset of a text, in bytes: in the braces of an instance
-    /// the imports of its package that have no argument yet, behind a dot the exports of an instance, and in the braces of
+    /// the imports of its package that have no argument yet, after a dot the exports of an instance, and in the braces of
     /// a `use` the types of the interface. All of them are returned, whatever word is at the offset. A name that `let` binds
     /// is one of an instance, and so is one that `import` binds with the path of an interface. In a string that is open they
     /// are written between quotes, and replace the string: where a quote follows the offset, that is their second one.

@@ -12,7 +12,7 @@ use wac_package_names::key_named;
 #[derive(Drop)]
 pub(crate) struct Packages {
     declared: Declared,
-    /// The names of the documents, and behind them those of the components.
+    /// The names of the documents, and after them those of the components.
     names: Vec<String>,
     /// The numbers of the sources of the documents.
     sources: Vec<usize>,
@@ -26,7 +26,7 @@ struct Listed<'s> {
     sources: Vec<usize>,
 }
 
-/// What is behind a folder and a slash in a path.
+/// What is after a folder and a slash in a path.
 pub(crate) fn path_below<'p>(folder: &str, path: &'p str) -> Option<&'p str> {
     path.strip_prefix(folder)?.strip_prefix('/')
 }

@@ -12,7 +12,7 @@ use wac_graph::{ItemKind, Package, PackageKey, Type};
 struct Parent<'t> {
     /// The package's name, without its version.
     package: &'t str,
-    /// The names behind it, with `/` between them: none where the last one is a definition of the package.
+    /// The names after it, with `/` between them: none where the last one is a definition of the package.
     segments: &'t str,
 }
 

@@ -30,7 +30,7 @@ pub(crate) enum Place<'n> {
 }
 
 impl<'n> Place<'n> {
-    /// What has the names that are behind one of these: a path is that of an interface.
+    /// What has the names that are after one of these: a path is that of an interface.
     pub(crate) fn after(self, name: &'n str) -> Place<'n> {
         if name.contains('/') {
             return Place::Interface(name);

@@ -28,7 +28,7 @@ fn declarations_of<'w>(
     Ok(saved)
 }
 
-/// Documents, and behind them those that declare no package.
+/// Documents, and after them those that declare no package.
 fn with_compositions<'w>(
     declarations: Vec<SavedDocument<'w>>,
     compositions: &'w [DocumentFile],

@@ -27,7 +27,7 @@ struct Search<'s> {
     text: &'s str,
     /// The name that is looked for: none where all are found.
     wanted: Option<&'s str>,
-    /// The segments behind it, with `/` between them.
+    /// The segments after it, with `/` between them.
     rest: &'s str,
     item: Option<&'s str>,
     braces: usize,
@@ -94,7 +94,7 @@ impl<'s> Search<'s> {
     }
 }
 
-/// Where a document has an item of a world of this name: the first one behind a keyword, `import` or `export`.
+/// Where a document has an item of a world of this name: the first one after a keyword, `import` or `export`.
 pub(crate) fn item_after(text: &str, keyword: Token, name: &str) -> Option<SourceSpan> {
     let Ok(mut lexer) = Lexer::new(accepted(text)) else {
         return None;
@@ -112,7 +112,7 @@ pub(crate) fn item_after(text: &str, keyword: Token, name: &str) -> Option<Sourc
     None
 }
 
-/// Where a text declares a name in the first braces behind a span.
+/// Where a text declares a name in the first braces after a span.
 pub(crate) fn declared_within<'s>(
     text: &'s str,
     outer: SourceSpan,

@@ -26,7 +26,7 @@ IsTied source names mention =
 abbrev pub AreTied : List ℕ → Names → Type 0
 AreTied source names = All (IsTied source names.bindings.items) names.mentions.items
 
--- an offset touches a span where it is in the span or just behind it
+-- an offset touches a span where it is in the span or just after it
 abbrev pub touches : ℕ → Span → Bool
 touches offset span = nat_le span.offset offset && nat_le (offset - span.offset) span.len
 

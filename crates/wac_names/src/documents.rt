@@ -29,7 +29,7 @@ use wac_ast_base::PackagePath;
 use wac_ast_statements::LetStatement;
 use wac_ast_worlds::{ImportStatement, ImportType};
 
-/// Notes the names of what is imported under the name of a number, and returns the scope behind it.
+/// Notes the names of what is imported under the name of a number, and returns the scope after it.
 fn import_type<'a>(
     ty: &ImportType<'a>,
     finder: &mut Finder<'a>,

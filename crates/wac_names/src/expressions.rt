@@ -7,13 +7,13 @@ ghost use Rattle.wac_names.specs.Traced.{Takes};
 
 use crate::finder::Finder;
 use crate::paths::at_root;
-use crate::place::behind;
+use crate::place::after;
 use std::alloc::AllocError;
 use wac_ast_base::{Ident, String};
 use wac_ast_statements::{Expr, InstantiationArgument, NewExpr, PostfixExpr, PrimaryExpr};
 use wac_lexer::SourceSpan;
 
-/// Notes the names of an expression, and returns the scope behind it.
+/// Notes the names of an expression, and returns the scope after it.
 #[cycle(expression)]
 pub(crate) fn expression<'a>(
     expr: &Expr<'a>,
@@ -25,7 +25,7 @@ pub(crate) fn expression<'a>(
     accesses(&expr.postfix, finder, scope)
 }
 
-/// Notes the names of the beginning of an expression, and returns the scope behind it. What a new instance exports is
+/// Notes the names of the beginning of an expression, and returns the scope after it. What a new instance exports is
 /// declared in another package.
 #[cycle(expression)]
 fn primary<'a>(expr: &PrimaryExpr<'a>, finder: &mut Finder<'a>) -> Result<Option<usize>, AllocError>
@@ -105,7 +105,7 @@ fn accessed<'a>(access: &PostfixExpr<'a>) -> Ident<'a> {
     }
 }
 
-/// Notes the names of accesses to what has this scope behind it, and returns the scope behind the last.
+/// Notes the names of accesses to what has this scope after it, and returns the scope after the last.
 fn accesses<'a>(
     accesses: &[PostfixExpr<'a>],
     finder: &mut Finder<'a>,
@@ -117,7 +117,7 @@ fn accesses<'a>(
     for access in accesses {
         let id = accessed(access);
         let found = finder.member(scope, &id)?;
-        scope = behind(found);
+        scope = after(found);
     }
     Ok(scope)
 }

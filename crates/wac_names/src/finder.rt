@@ -239,7 +239,7 @@ impl<'a> Finder<'a> {
         }
     }
 
-    /// The export that an identifier denotes of what has this scope behind it.
+    /// The export that an identifier denotes of what has this scope after it.
     pub(crate) fn member(
         &mut self,
         scope: Option<usize>,

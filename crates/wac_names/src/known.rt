@@ -1,6 +1,6 @@
 //! What names denote, as far as a document was read.
 //!
-//! No clause says what is found in here: which identifiers find which names is tested behind it, and proved of what passes.
+//! No clause says what is found in here: which identifiers find which names is tested after it, and proved of what passes.
 
 use crate::names::{Kind, Mention, Name, Names};
 use crate::place::{Denoted, Part, Place, ROOT};
@@ -303,7 +303,7 @@ impl<'a> Known<'a> {
         }
     }
 
-    /// The export that an identifier denotes of what has this scope behind it. It is noted as a mention of that.
+    /// The export that an identifier denotes of what has this scope after it. It is noted as a mention of that.
     pub(crate) fn member(
         &mut self,
         scope: Option<usize>,

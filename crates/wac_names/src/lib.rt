@@ -8,7 +8,7 @@
 //! }
 //! ```
 //!
-//! Offsets are in bytes. One just behind a name's last letter is at the name.
+//! Offsets are in bytes. One just after a name's last letter is at the name.
 #![tactic(auto)]
 
 mod declarations;

@@ -85,7 +85,7 @@ pub struct Names {
     pub mentions: Vec<Mention>,
 }
 
-/// Whether an offset is in a span or just behind it.
+/// Whether an offset is in a span or just after it.
 pub fn touches(span: SourceSpan, offset: usize) -> bool
     ensures { result ≡ touches offset span }
 {

@@ -7,12 +7,12 @@ ghost use Rattle.wac_names.specs.Steps.{Step, path_steps, use_path_steps, world_
 ghost use Rattle.wac_names.specs.Traced.{Takes};
 
 use crate::finder::Finder;
-use crate::place::{Denoted, Here, behind};
+use crate::place::{Denoted, Here, after};
 use std::alloc::AllocError;
 use wac_ast_base::{Ident, PackagePath, SegmentSpans};
 use wac_ast_uses::{UsePath, WorldRef};
 
-/// Notes the segments of a path after the one that denotes this, and returns the scope behind the last one.
+/// Notes the segments of a path after the one that denotes this, and returns the scope after the last one.
 fn segments<'a>(
     finder: &mut Finder<'a>,
     first: Option<Denoted>,
@@ -22,12 +22,12 @@ fn segments<'a>(
 {
     let mut found = first;
     for (string, span) in rest {
-        found = finder.member(behind(found), &Ident { string, span })?;
+        found = finder.member(after(found), &Ident { string, span })?;
     }
-    Ok(behind(found))
+    Ok(after(found))
 }
 
-/// Notes the names of a path, and returns the scope behind it. The document binds no name of a path into another package.
+/// Notes the names of a path, and returns the scope after it. The document binds no name of a path into another package.
 pub(crate) fn path<'a>(
     finder: &mut Finder<'a>,
     path: &PackagePath<'a>,
@@ -44,7 +44,7 @@ pub(crate) fn path<'a>(
     }
 }
 
-/// Notes an identifier at root, and returns the scope behind it.
+/// Notes an identifier at root, and returns the scope after it.
 pub(crate) fn at_root<'a>(
     finder: &mut Finder<'a>,
     id: &Ident<'a>,
@@ -52,7 +52,7 @@ pub(crate) fn at_root<'a>(
     ensures { OnOk result (Takes finder.old finder.new (Step.looks_up levels.Root (ident_of id.now) ∷ [])) }
 {
     let found = finder.look_up(Here::root(), id)?;
-    Ok(behind(found))
+    Ok(after(found))
 }
 
 /// Notes the interface of a `use`, and returns its scope.

@@ -10,7 +10,7 @@ use crate::steps::Level;
 pub(crate) struct Denoted {
     /// The number of the name that it stands for.
     pub binding: usize,
-    /// The scope of what is found behind it, as the exports of an instance.
+    /// The scope of what is found after it, as the exports of an instance.
     pub scope: Option<usize>,
     /// The number of the mention by which a `use` brings it into the scope in which it was found. Without one it is bound
     /// there where its name is.
@@ -18,7 +18,7 @@ pub(crate) struct Denoted {
 }
 
 impl Denoted {
-    /// A name that is bound itself, and the scope behind it.
+    /// A name that is bound itself, and the scope after it.
     pub(crate) fn new(binding: usize, scope: Option<usize>) -> Self {
         Denoted {
             binding,
@@ -37,8 +37,8 @@ impl Denoted {
     }
 }
 
-/// The scope behind what a name denotes.
-pub(crate) fn behind(found: Option<Denoted>) -> Option<usize> {
+/// The scope after what a name denotes.
+pub(crate) fn after(found: Option<Denoted>) -> Option<usize> {
     let denoted = found?;
     denoted.scope
 }

@@ -13,7 +13,7 @@ use crate::finder::Finder;
 use crate::interfaces::interface;
 use crate::names::Kind;
 use crate::paths::{at_root, path, world_ref};
-use crate::place::{Denoted, Here, Part, Place, behind};
+use crate::place::{Denoted, Here, Part, Place, after};
 use crate::steps::Level;
 use crate::types::function;
 use crate::uses::use_statement;
@@ -22,7 +22,7 @@ use wac_ast_base::Ident;
 use wac_ast_uses::WorldInclude;
 use wac_ast_worlds::{ExternType, NamedWorldItem, WorldDecl, WorldItem, WorldItemPath};
 
-/// Notes the type that an identifier denotes in a body, else at root, and returns the scope behind it.
+/// Notes the type that an identifier denotes in a body, else at root, and returns the scope after it.
 fn named_extern<'a>(
     finder: &mut Finder<'a>,
     here: Here,
@@ -31,10 +31,10 @@ fn named_extern<'a>(
     ensures { OnOk result (Takes finder.old finder.new (Step.looks_outwards here.level (ident_of id.now) ∷ [])) }
 {
     let found = finder.look_outwards(here, id)?;
-    Ok(behind(found))
+    Ok(after(found))
 }
 
-/// Notes the names of the type of an item, in the declaration of the name of a number, and returns the scope behind it.
+/// Notes the names of the type of an item, in the declaration of the name of a number, and returns the scope after it.
 fn extern_type<'a>(
     ty: &ExternType<'a>,
     finder: &mut Finder<'a>,

@@ -37,7 +37,7 @@ fn ends_before(
     Ok(ends)
 }
 
-/// The graph of the statements that end before a place, and of more statements behind them.
+/// The graph of the statements that end before a place, and of more statements after them.
 pub(crate) fn graph_before(
     alloc: Global,
     context: Context<'_>,
@@ -103,11 +103,11 @@ fn read_beginning(
     more: &str,
 ) -> Result<Beginning, AllocError> {
     let before = context.text.get(..context.target_start);
-    let behind = context.text.get(context.target_end..end);
-    match (before, behind) {
-        (Some(before), Some(behind)) => {
+    let after = context.text.get(context.target_end..end);
+    match (before, after) {
+        (Some(before), Some(after)) => {
             // What ends a statement may be the end of a comment.
-            let text = format!(in alloc; "{before}{behind}\n{more}")?;
+            let text = format!(in alloc; "{before}{after}\n{more}")?;
             read(alloc, context, text.as_str())
         }
         _ => Ok(Beginning::Cut),

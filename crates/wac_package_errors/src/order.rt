@@ -15,8 +15,8 @@ fn is_declaration(before: &str) -> bool {
         || before.ends_with("type ")
 }
 
-/// Whether a text may go on behind a declared name.
-fn is_behind_name(text: &str) -> bool {
+/// Whether a text may go on after a declared name.
+fn is_after_name(text: &str) -> bool {
     text.starts_with(' ') || text.starts_with(';') || text.starts_with('=') || text.starts_with('{')
 }
 
@@ -24,8 +24,8 @@ fn is_behind_name(text: &str) -> bool {
 fn declares(text: &str, name: &str) -> bool {
     for (at, _) in text.match_indices(name) {
         let before = text.get(..at).unwrap_or("");
-        let behind = text.get(at.saturating_add(name.len())..).unwrap_or("");
-        if is_declaration(before) && is_behind_name(behind) {
+        let after = text.get(at.saturating_add(name.len())..).unwrap_or("");
+        if is_declaration(before) && is_after_name(after) {
             return true;
         }
     }

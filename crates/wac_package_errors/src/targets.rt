@@ -132,7 +132,7 @@ fn open_denied(
     }
 }
 
-/// A help, behind the name of the instance that leaves an import open, since that is written nowhere.
+/// A help, after the name of the instance that leaves an import open, since that is written nowhere.
 fn with_opener(
     alloc: Global,
     graph: &CompositionGraph,
@@ -224,7 +224,7 @@ fn allowed_help(
     }
 }
 
-/// A help, behind the name of the first instance that leaves a name open, unless a statement imports it.
+/// A help, after the name of the first instance that leaves a name open, unless a statement imports it.
 fn opened_by(
     alloc: Global,
     graph: &CompositionGraph,

@@ -12,7 +12,7 @@ pub(crate) fn text_at(text: &str, span: SourceSpan) -> &str {
     text.get(span.offset()..end_of(span)).unwrap_or("")
 }
 
-/// The text behind a span.
+/// The text after a span.
 pub(crate) fn text_after(text: &str, span: SourceSpan) -> &str {
     text.get(end_of(span)..).unwrap_or("")
 }

@@ -37,7 +37,7 @@ fn help_at(text: &str, span: SourceSpan) -> Option<&'static str> {
     word_help(text_at(text, span), before, rest)
 }
 
-/// The same of a word, or of a brace behind a package's name.
+/// The same of a word, or of a brace after a package's name.
 fn word_help(word: &str, before: &str, rest: &str) -> Option<&'static str> {
     match word {
         "use" if !rest.starts_with("use-") => Some(

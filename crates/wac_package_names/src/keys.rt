@@ -8,7 +8,7 @@ use std::alloc::{AllocError, Global};
 use wac_graph::PackageKey;
 use wac_resolution_state::package_key;
 
-/// Appends a package's name, and its version behind `@`.
+/// Appends a package's name, and its version after `@`.
 pub fn push_key(out: &mut String, key: &PackageKey) -> Result<(), AllocError>
     ensures { OnOk result (string_bytes out.new ≡ string_bytes out.old ++ key_text (key_of key.now)) }
 {
@@ -30,7 +30,7 @@ fn name_in(text: &str) -> &str
     }
 }
 
-/// The key that a text names: a package's name, and its version behind `@`.
+/// The key that a text names: a package's name, and its version after `@`.
 pub fn key_named(alloc: Global, text: &str) -> Result<PackageKey, AllocError>
     ensures { IfOk result (λ key. key_of key ≡ named_key text.now) }
 {

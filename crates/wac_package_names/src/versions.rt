@@ -3,7 +3,7 @@
 use indexmap::IndexMap;
 use wac_graph::ItemKind;
 
-/// The second number of a version, from the text behind its first dot.
+/// The second number of a version, from the text after its first dot.
 fn minor(rest: &str) -> &str {
     match rest.split_once('.') {
         Some((minor, _)) => minor,
@@ -11,7 +11,7 @@ fn minor(rest: &str) -> &str {
     }
 }
 
-/// Whether what is behind the first numbers of two versions is compatible, if these numbers are 0.
+/// Whether what is after the first numbers of two versions is compatible, if these numbers are 0.
 fn are_minors_compatible(rest: &str, other_rest: &str) -> bool {
     if minor(rest) == "0" {
         rest == other_rest

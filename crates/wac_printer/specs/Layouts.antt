@@ -21,13 +21,13 @@ at_depth layout printer = layout printer.source printer.depth
 abbrev pub one_deeper : {X : Type 0} → (List ℕ → ℕ → X → List Piece) → Printer → X → List Piece
 one_deeper layout printer = layout printer.source (deeper printer.depth)
 
--- an item behind a comma and a blank
-abbrev pub behind_comma : {X : Type 0} → (X → List Piece) → X → List Piece
-behind_comma layout = λ x. (token (codes ",") ∷ space ∷ []) ++ layout x
+-- an item after a comma and a blank
+abbrev pub after_comma : {X : Type 0} → (X → List Piece) → X → List Piece
+after_comma layout = λ x. (token (codes ",") ∷ space ∷ []) ++ layout x
 
--- an item behind an empty line, ended by a newline
-abbrev pub behind_newline : {X : Type 0} → (X → List Piece) → X → List Piece
-behind_newline layout = λ x. newline ∷ (layout x ++ newline ∷ [])
+-- an item after an empty line, ended by a newline
+abbrev pub after_newline : {X : Type 0} → (X → List Piece) → X → List Piece
+after_newline layout = λ x. newline ∷ (layout x ++ newline ∷ [])
 
 -- an item ended by a comma and a newline
 abbrev pub row : {X : Type 0} → (X → List Piece) → X → List Piece

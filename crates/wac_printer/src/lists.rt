@@ -4,7 +4,7 @@ ghost use Rattle.std.specs.List.{flat_map, All};
 ghost use Rattle.wac_printer_layout.specs.Printed.{Piece};
 ghost use Rattle.wac_printer_pieces.specs.Printed.{Prints};
 ghost use Rattle.wac_printer_layout.specs.Parts.{newline, joined, spaced, body, rows, open_body, close_body};
-ghost use Rattle.wac_printer.specs.Layouts.{at_depth, behind_comma, behind_newline, one_deeper, row};
+ghost use Rattle.wac_printer.specs.Layouts.{at_depth, after_comma, after_newline, one_deeper, row};
 
 use crate::printer::DocumentPrinter;
 use wac_lexer::Sink;
@@ -45,25 +45,25 @@ impl<'a, S: Sink> DocumentPrinter<'a, S> {
             None => self.ready(),
             Some((first, rest)) => {
                 first.print(self)?;
-                self.behind_commas(rest)
+                self.after_commas(rest)
             }
         }
     }
 
-    fn behind_commas<T: Node>(&mut self, items: &[T]) -> PrintResult
+    fn after_commas<T: Node>(&mut self, items: &[T]) -> PrintResult
         requires { All (T.sliced self.old.source) items.now }
-        ensures { Prints self.old result self.new (flat_map (behind_comma (at_depth T.layout self.old)) items.now) }
+        ensures { Prints self.old result self.new (flat_map (after_comma (at_depth T.layout self.old)) items.now) }
     {
         self.ready()?;
         for item in items {
-            self.behind_comma(item)?;
+            self.after_comma(item)?;
         }
         Ok(())
     }
 
-    fn behind_comma<T: Node>(&mut self, item: &T) -> PrintResult
+    fn after_comma<T: Node>(&mut self, item: &T) -> PrintResult
         requires { T.sliced self.old.source item.now }
-        ensures { Prints self.old result self.new (behind_comma (at_depth T.layout self.old) item.now) }
+        ensures { Prints self.old result self.new (after_comma (at_depth T.layout self.old) item.now) }
     {
         self.token(",").and(self.blank(" ")).and(item.print(self))
     }
@@ -77,25 +77,25 @@ impl<'a, S: Sink> DocumentPrinter<'a, S> {
             None => self.ready(),
             Some((first, rest)) => {
                 self.ended(first)?;
-                self.behind_empty_lines(rest)
+                self.after_empty_lines(rest)
             }
         }
     }
 
-    fn behind_empty_lines<T: Node>(&mut self, items: &[T]) -> PrintResult
+    fn after_empty_lines<T: Node>(&mut self, items: &[T]) -> PrintResult
         requires { All (T.sliced self.old.source) items.now }
-        ensures { Prints self.old result self.new (flat_map (behind_newline (at_depth T.layout self.old)) items.now) }
+        ensures { Prints self.old result self.new (flat_map (after_newline (at_depth T.layout self.old)) items.now) }
     {
         self.ready()?;
         for item in items {
-            self.behind_empty_line(item)?;
+            self.after_empty_line(item)?;
         }
         Ok(())
     }
 
-    fn behind_empty_line<T: Node>(&mut self, item: &T) -> PrintResult
+    fn after_empty_line<T: Node>(&mut self, item: &T) -> PrintResult
         requires { T.sliced self.old.source item.now }
-        ensures { Prints self.old result self.new (behind_newline (at_depth T.layout self.old) item.now) }
+        ensures { Prints self.old result self.new (after_newline (at_depth T.layout self.old) item.now) }
     {
         self.blank("\n").and(self.ended(item))
     }

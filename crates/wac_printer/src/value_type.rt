@@ -14,7 +14,7 @@ ghost use Rattle.wac_printer_layout.specs.Parts.{space, joined};
 ghost use Rattle.wac_printer_layout.specs.TypeLayout.{async_layout, extern_name_layout, func_type_layout, named_type_layout, params_layout, results_layout, ty_layout};
 ghost use Rattle.wac_printer.specs.Forms.{PrintsBare, PrintsEach};
 ghost use Rattle.wac_printer.specs.Nodes.{PrintsFuncTypeRef};
-ghost use Rattle.wac_printer.specs.Layouts.{angled_layout, behind_comma, borrowed_layout, failing_layout, first_side_layout, second_side_layout, tuple_layout, type_layout};
+ghost use Rattle.wac_printer.specs.Layouts.{angled_layout, after_comma, borrowed_layout, failing_layout, first_side_layout, second_side_layout, tuple_layout, type_layout};
 
 use crate::lists::Node;
 use crate::printer::DocumentPrinter;
@@ -249,7 +249,7 @@ impl<'a, S: Sink> DocumentPrinter<'a, S> {
     #[cycle(ty)]
     fn further_types(&mut self, types: &[Type<'_>]) -> PrintResult
         requires { All (λ x. walk_ty (printable self.old.source) (ty_of x)) types.now }
-        ensures { Prints self.old result self.new (flat_map (behind_comma (type_layout self.old.source)) types.now) }
+        ensures { Prints self.old result self.new (flat_map (after_comma (type_layout self.old.source)) types.now) }
     {
         self.ready()?;
         for ty in types {
@@ -261,7 +261,7 @@ impl<'a, S: Sink> DocumentPrinter<'a, S> {
     #[cycle(ty)]
     fn further_type(&mut self, ty: &Type<'_>) -> PrintResult
         requires { walk_ty (printable self.old.source) (ty_of ty.now) }
-        ensures { Prints self.old result self.new (behind_comma (type_layout self.old.source) ty.now) }
+        ensures { Prints self.old result self.new (after_comma (type_layout self.old.source) ty.now) }
     {
         self.token(",")?;
         self.blank(" ")?;

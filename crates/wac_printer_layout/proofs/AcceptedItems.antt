@@ -39,8 +39,8 @@ DocHolds P None = Unit {0}
 DocHolds P (Some t) = Holds P t
 
 module _ (P : ℕ → Type 0) where
-  behind_marks : (part mark : List ℕ) (a b c : ℕ) → mark ≡ a ∷ b ∷ c ∷ [] → c < 128 → bytes_eq (take 3 part) mark ≡ true → Holds P part → Holds P (drop 3 part)
-  behind_marks part mark a b c is low e h =
+  after_marks : (part mark : List ℕ) (a b c : ℕ) → mark ≡ a ∷ b ∷ c ∷ [] → c < 128 → bytes_eq (take 3 part) mark ≡ true → Holds P part → Holds P (drop 3 part)
+  after_marks part mark a b c is low e h =
       let front : take 3 part ≡ a ∷ b ∷ c ∷ [] = bytes_eq_is (take 3 part) mark e ∙ is in
       let whole : part ≡ (a ∷ b ∷ []) ++ c ∷ drop 3 part = sym (take-append-drop 3 part) ∙ ap (λ t. t ++ drop 3 part) front in
       holds_drop P part 3 h (after_byte part (a ∷ b ∷ []) (drop 3 part) c 3 h.0 whole low (omega arith))
@@ -57,10 +57,10 @@ module _ (P : ℕ → Type 0) where
   doc_holds part h =
       let text = drop 3 part in
       cond_both (begins_with (codes "///") part) (Some (trim text)) _ (DocHolds P)
-      (λ e. holds_trim P text (behind_marks part (codes "///") 47 47 47 refl (omega arith) e h))
+      (λ e. holds_trim P text (after_marks part (codes "///") 47 47 47 refl (omega arith) e h))
       (λ _. cond_both (begins_with (codes "/**") part && ends_with (codes "*/") text) (Some (trim (take (length text - 2) text))) None (DocHolds P)
       (λ e. let p = and_parts (begins_with (codes "/**") part) (ends_with (codes "*/") text) e in
-      holds_trim P (take (length text - 2) text) (before_end text p.1 (behind_marks part (codes "/**") 47 42 42 refl (omega arith) p.0 h)))
+      holds_trim P (take (length text - 2) text) (before_end text p.1 (after_marks part (codes "/**") 47 42 42 refl (omega arith) p.0 h)))
       (λ _. tt))
 
   abbrev pub DocsHold : List Doc → Type 0

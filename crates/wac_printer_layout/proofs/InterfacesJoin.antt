@@ -3,7 +3,7 @@ use Rattle.wac_ast_grammar.specs.Walk.{walk_inline_interface, walk_interface_dec
 use Rattle.wac_printer_layout.proofs.Common.{◌≡◌, ℕ, Bool, true, false, List, [], ◌∷◌, ◌++◌, refl, Option, Some, None, codes, AllByRecursion, follows, Ident, UsePath, UseItem, Use, InterfaceExport, InterfaceItem, InterfaceDecl, InlineInterface, IfThere}
 use Rattle.wac_lexer.specs.declared.token.Token.TheVariants as kinds
 use Rattle.wac_ast_grammar.specs.Tree as tree
-use Rattle.wac_printer_layout.specs.Printed.{token, text, fresh_behind}
+use Rattle.wac_printer_layout.specs.Printed.{token, text, fresh_after_token}
 use Rattle.wac_printer_layout.specs.Parts.{joined}
 use Rattle.wac_printer_layout.specs.Texts.{Spelled, IdentHas, DocsHave, has}
 use Rattle.wac_printer_layout.specs.TypeLayout.{func_type_ref_layout}
@@ -40,13 +40,13 @@ module _ (gap : List ℕ) where
           known _ refl _ refl,
           (
             (refl, tt),
-            also gap _ _ (use_path_layout x.path) _ (use_path_join x.path _ _ is.1 refl refl) (behind (fresh_behind gap false (use_path_layout x.path))),
+            also gap _ _ (use_path_layout x.path) _ (use_path_join x.path _ _ is.1 refl refl) (after (fresh_after_token gap false (use_path_layout x.path))),
           ),
         ),
       ))
     where
-      behind : (later : Bool) → J gap rest later (use_items_layout x.items ++ token (codes ";") ∷ [])
-      behind later = also gap rest later (use_items_layout x.items) (token (codes ";") ∷ []) (use_items_join x.items _ later is.2) (semicolon _, tt)
+      after : (later : Bool) → J gap rest later (use_items_layout x.items ++ token (codes ";") ∷ [])
+      after later = also gap rest later (use_items_layout x.items) (token (codes ";") ∷ []) (use_items_join x.items _ later is.2) (semicolon _, tt)
 
   interface_export_join : (depth : ℕ) (x : InterfaceExport) (rest : List ℕ) (fresh : Bool) → walk_interface_export (has Spelled) (DocsHave Spelled) x → J gap rest fresh (interface_export_layout depth x)
   interface_export_join depth x rest fresh is =

@@ -2,7 +2,7 @@
 use Rattle.wac_printer_layout.proofs.Common.{◌≡◌, ℕ, Bool, true, List, [], ◌∷◌, ◌++◌, refl, ap, ◌∙◌, append_assoc, Some, codes, AllByRecursion, flat_map, follows, token_of, Doc}
 use Rattle.wac_lexer.specs.declared.token.Token.TheVariants as kinds
 use Rattle.wac_lexer.proofs.Followed.{dot_before_word}
-use Rattle.wac_printer_layout.specs.Printed.{Piece, token, text, fresh_behind, deeper}
+use Rattle.wac_printer_layout.specs.Printed.{Piece, token, text, fresh_after_token, deeper}
 use Rattle.wac_printer_layout.specs.Joins.{Stands, JoinsBefore}
 use Rattle.wac_printer_layout.specs.Parts.{space, newline, joined, spaced, body, rows, close_body, docs_layout}
 use Rattle.wac_printer_layout.specs.Texts.{Spelled, DocsHave}
@@ -91,7 +91,7 @@ module _ (gap : List ℕ) where
   J rest fresh ps = JoinsBefore rest gap fresh ps
 
   -- two lists of pieces, concatenated
-  pub also : (rest : List ℕ) (fresh : Bool) (ps qs : List Piece) → J (text gap (fresh_behind gap fresh ps) qs ++ rest) fresh ps → J rest (fresh_behind gap fresh ps) qs → J rest fresh (ps ++ qs)
+  pub also : (rest : List ℕ) (fresh : Bool) (ps qs : List Piece) → J (text gap (fresh_after_token gap fresh ps) qs ++ rest) fresh ps → J rest (fresh_after_token gap fresh ps) qs → J rest fresh (ps ++ qs)
   also rest fresh ps qs first second = join rest gap fresh ps qs first second
 
   -- docs, before anything

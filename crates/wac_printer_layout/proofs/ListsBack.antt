@@ -54,8 +54,8 @@ module _ (P : List ℕ) {X Q : Type 0} (bS bP : X → X) (Good : X → Type 0) (
     whole : (x : X) (xs : List X) (ys : List Item) → FirstBack x xs ys → ListBack L (x ∷ xs) ys
     whole x xs ys h = let l = cons ys h.0 h.1 h.2 h.3 h.4 h.5 h.6 in (l.0, l.1, ap (map bP) l.2 ∙ (λ i. h.7 i ∷ h.8 i))
 
-    behind_comma : (xs : List X) (c : Item) (ys zs : List Item) → ys ≡ c ∷ zs → is_token kinds.Comma c.token ≡ true → ListBack L xs zs → ListBack M xs ys
-    behind_comma xs c ys zs e is l = let m = comma c ys zs l.0 e is l.1 in (m.0, m.1, ap (map bP) m.2 ∙ l.2)
+    after_comma : (xs : List X) (c : Item) (ys zs : List Item) → ys ≡ c ∷ zs → is_token kinds.Comma c.token ≡ true → ListBack L xs zs → ListBack M xs ys
+    after_comma xs c ys zs e is l = let m = comma c ys zs l.0 e is l.1 in (m.0, m.1, ap (map bP) m.2 ∙ l.2)
 
     -- rows, each with its comma
     abbrev row : X → List Piece
@@ -67,7 +67,7 @@ module _ (P : List ℕ) {X Q : Type 0} (bS bP : X → X) (Good : X → Type 0) (
         let c = split P [] ys (f (bS x)) _ (regroup P [] ys (f (bS x)) (token (codes ",") ∷ newline ∷ []) (flat_map row (map bS xs) ++ end) m) in
         let r = back x c.0 is c.3 in
         let k = c.4 in
-        let q = behind_comma xs k.0 c.1 k.1 k.2 (ap (is_token kinds.Comma) k.3.0) (others k.1 k.4) in
+        let q = after_comma xs k.0 c.1 k.1 k.2 (ap (is_token kinds.Comma) k.3.0) (others k.1 k.4) in
         (c.0, c.1, r.0, q.0, c.2, r.1, q.1, r.2, q.2)
 
     pub rows_back : (xs : List X) (ys : List Item) → AllByRecursion Good (map bS xs) → Means P [] ys (flat_map row (map bS xs) ++ end) → ListBack L xs ys
@@ -91,7 +91,7 @@ module _ (P : List ℕ) {X Q : Type 0} (bS bP : X → X) (Good : X → Type 0) (
     later_back : (xs : List X) (ds : List (List ℕ)) (ys : List Item) → AllByRecursion Good (map bS xs) → Means P ds ys (later xs ++ end) → ListBack M xs ys
     later_back [] ds ys is h = more_nil ds ys h
     later_back (x ∷ xs) ds ys is h =
-        behind_comma (x ∷ xs) h.0 ys h.1 h.2 (ap (is_token kinds.Comma) h.3.0) (whole x xs h.1 (first_of x xs h.1 is.0 h.4 (λ es zs m. later_back xs es zs is.1 m)))
+        after_comma (x ∷ xs) h.0 ys h.1 h.2 (ap (is_token kinds.Comma) h.3.0) (whole x xs h.1 (first_of x xs h.1 is.0 h.4 (λ es zs m. later_back xs es zs is.1 m)))
 
     pub joined_back : (xs : List X) (ds : List (List ℕ)) (ys : List Item) → AllByRecursion Good (map bS xs) → Means P [] ys (joined f (map bS xs) ++ end) → ListBack L xs ys
     unfolding joined

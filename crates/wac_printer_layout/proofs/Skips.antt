@@ -22,16 +22,16 @@ module _ (source : List ℕ) (place : ℕ) (part rest : List ℕ) (split : drop 
   takes : (part_len (part ++ rest) ≡ length part) × (0 < length part)
   takes = part_takes part rest is
 
-  behind_part : drop (length part) (drop place source) ≡ rest
-  behind_part = ap (drop (length part)) split ∙ drop-append_seam part rest
+  after_part : drop (length part) (drop place source) ≡ rest
+  after_part = ap (drop (length part)) split ∙ drop-append_seam part rest
 
   pub next : drop (place + length part) source ≡ rest
-  next = sym (drop-drop (length part) place source) ∙ behind_part
+  next = sym (drop-drop (length part) place source) ∙ after_part
 
   gap_is : gap (drop place source) ≡ length part + gap rest
   gap_is =
       gap_part (drop place source) (length part) (ap part_len split ∙ takes.0) takes.1 (omega (arith, ap length split, length-append part rest, takes.1))
-      ∙ ap (λ t. length part + gap t) behind_part
+      ∙ ap (λ t. length part + gap t) after_part
 
   start_is : start_of source place ≡ start_of source (place + length part)
   start_is = let there : gap (drop (place + length part) source) ≡ gap rest = ap gap next in omega (arith, gap_is, there)
@@ -39,10 +39,10 @@ module _ (source : List ℕ) (place : ℕ) (part rest : List ℕ) (split : drop 
   docs_are : docs_at source place ≡ doc_of_part place part ++ docs_at source (place + length part)
   docs_are =
       let later = longest_gap rest in
-      let behind_gap : drop (gap rest) rest ≡ drop (gap (drop place source)) (drop place source) =
-      ap (drop (gap rest)) (sym behind_part) ∙ drop-drop (gap rest) (length part) (drop place source) ∙ ap (λ n. drop n (drop place source)) (sym gap_is) in
+      let after_gap : drop (gap rest) rest ≡ drop (gap (drop place source)) (drop place source) =
+      ap (drop (gap rest)) (sym after_part) ∙ drop-drop (gap rest) (length part) (drop place source) ∙ ap (λ n. drop n (drop place source)) (sym gap_is) in
       let here : docs_at source place ≡ docs_among place (part ∷ later.parts) =
-      docs_in_gap source place (part ∷ later.parts) (rest, split, is, subst (Gap rest later.parts) behind_gap later.is) in
+      docs_in_gap source place (part ∷ later.parts) (rest, split, is, subst (Gap rest later.parts) after_gap later.is) in
       let there : docs_at source (place + length part) ≡ docs_among (place + length part) later.parts =
       docs_in_gap source (place + length part) later.parts (subst (λ t. Gap t later.parts (drop (gap t) t)) (sym next) later.is) in
       here ∙ ap (λ docs. doc_of_part place part ++ docs) (sym there)

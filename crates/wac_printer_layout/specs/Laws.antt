@@ -11,7 +11,7 @@ use Rattle.wac_printer_layout.specs.Bare.{Keep, doc_lines, bare_document}
 use Rattle.wac_printer_layout.specs.Joins.{AreBlanks, Joins, JoinsBefore}
 use Rattle.wac_printer_layout.specs.Placed.{placed, said, said_of}
 use Rattle.wac_printer_layout.specs.PlainTree.{plain_document}
-use Rattle.wac_printer_layout.specs.Printed.{Piece, text, fresh_after, fresh_behind}
+use Rattle.wac_printer_layout.specs.Printed.{Piece, text, fresh_after, fresh_after_token}
 use Rattle.wac_printer_layout.specs.Reread.{IsFixed, IsReread, printed, ReadsBack, RereadAs, WasPrinted}
 use Rattle.wac_printer_layout.specs.StatementLayout.{document_layout, statement_layout}
 use Rattle.wac_printer_layout.specs.Texts.{DocumentHas, Spelled, DocsHave, has}
@@ -32,19 +32,19 @@ ReadAsPlaced space fresh ps =
 abbrev pub PlacedSay : ℕ → List ℕ → Bool → List Piece → Type 0
 PlacedSay place space fresh ps = map said_of (placed place space fresh ps) ≡ said ps
 
--- two lists of pieces write what the first writes, and then what the second writes behind it
+-- two lists of pieces write what the first writes, and then what the second writes after it
 abbrev pub WriteBoth : List ℕ → Bool → List Piece → List Piece → Type 0
 WriteBoth space fresh ps qs =
-    text space fresh (ps ++ qs) ≡ text space fresh ps ++ text space (fresh_behind space fresh ps) qs
+    text space fresh (ps ++ qs) ≡ text space fresh ps ++ text space (fresh_after_token space fresh ps) qs
 
--- whether nothing is on the line behind pieces is seen from the text that they write
+-- whether nothing is on the line after pieces is seen from the text that they write
 abbrev pub FreshAsWritten : List ℕ → Bool → List Piece → Type 0
-FreshAsWritten space fresh ps = fresh_behind space fresh ps ≡ fresh_after fresh (text space fresh ps)
+FreshAsWritten space fresh ps = fresh_after_token space fresh ps ≡ fresh_after fresh (text space fresh ps)
 
 -- two lists of pieces join before the rest where the first joins before what the second writes, and the second joins
 abbrev pub JoinBoth : List ℕ → List ℕ → Bool → List Piece → List Piece → Type 0
 JoinBoth rest space fresh ps qs =
-    let later = fresh_behind space fresh ps in
+    let later = fresh_after_token space fresh ps in
     JoinsBefore rest space fresh (ps ++ qs)
     ↔ (JoinsBefore (text space later qs ++ rest) space fresh ps × JoinsBefore rest space later qs)
 

@@ -36,9 +36,9 @@ text space fresh [] = []
 text space fresh (p ∷ ps) = text_of space fresh p ++ text space (fresh_after fresh (text_of space fresh p)) ps
 
 -- whether nothing is on the line after pieces
-abbrev pub fresh_behind : List ℕ → Bool → List Piece → Bool
-fresh_behind space fresh [] = fresh
-fresh_behind space fresh (p ∷ ps) = fresh_behind space (fresh_after fresh (text_of space fresh p)) ps
+abbrev pub fresh_after_token : List ℕ → Bool → List Piece → Bool
+fresh_after_token space fresh [] = fresh
+fresh_after_token space fresh (p ∷ ps) = fresh_after_token space (fresh_after fresh (text_of space fresh p)) ps
 
 -- one deeper, up to the greatest number
 abbrev pub deeper : ℕ → ℕ

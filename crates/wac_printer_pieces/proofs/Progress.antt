@@ -57,9 +57,9 @@ pub part_at : {X : Type 0} (P : List ℕ → X → Type 0) (f : List ℕ → ℕ
 part_at P f xs i x old mid s h e each = subst (P mid.source) (sym e) (part P f xs i x old mid s h each)
 
 -- a list printed one deeper
-pub deeper_list : {X A : Type 0} (f : List ℕ → ℕ → X → List Piece) (xs : List X) (inside old behind later new : Printer) (d : ℕ) (r : Result A PrintError) → inside ≡ old → d ≡ deeper inside.depth → behind ≡ later
-    → Prints (record inside { depth = d }) r later (flat_map (f inside.source d) xs) → new ≡ record behind { depth = inside.depth } → Prints old r new (flat_map (f old.source (deeper old.depth)) xs)
-deeper_list f xs inside old behind later new d r is at back p n =
+pub deeper_list : {X A : Type 0} (f : List ℕ → ℕ → X → List Piece) (xs : List X) (inside old last later new : Printer) (d : ℕ) (r : Result A PrintError) → inside ≡ old → d ≡ deeper inside.depth → last ≡ later
+    → Prints (record inside { depth = d }) r later (flat_map (f inside.source d) xs) → new ≡ record last { depth = inside.depth } → Prints old r new (flat_map (f old.source (deeper old.depth)) xs)
+deeper_list f xs inside old last later new d r is at back p n =
     subst (λ (o : Printer). Prints o r new (flat_map (f o.source (deeper o.depth)) xs)) is
     (subst (λ k. Prints inside r new (flat_map (f inside.source k) xs)) at
     (one.reindent inside (record inside { depth = d }) later new r (flat_map (f inside.source d) xs) refl p (n ∙ ap (λ (q : Printer). record q { depth = inside.depth }) back)))

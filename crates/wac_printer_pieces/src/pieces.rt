@@ -30,7 +30,7 @@ impl<'a, S: Sink> Model for Pieces<'a, S> {
     ghost invariant = { λ p. Unit {0} };
 }
 
-fn is_fresh_behind(text: &str, fresh: bool) -> bool
+fn is_fresh_after(text: &str, fresh: bool) -> bool
     ensures { result ≡ fresh_after fresh text.now }
 {
     match text.as_bytes().last() {
@@ -115,7 +115,7 @@ impl<'a, S: Sink> Pieces<'a, S> {
             self.failed = true;
             return Err(PrintError::Writer);
         }
-        self.fresh = is_fresh_behind(text, self.fresh);
+        self.fresh = is_fresh_after(text, self.fresh);
         Ok(())
     }
 

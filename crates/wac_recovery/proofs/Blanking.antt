@@ -14,9 +14,9 @@ one_more_blank before now new items i byte so_far within is added =
     ∙ ap (λ xs. before ++ xs) (sym more)
 
 -- four parts
-pub joined : (front before middle behind one two three four : List ℕ) → one ≡ front → two ≡ one ++ before → three ≡ two ++ middle → four ≡ three ++ behind → four ≡ front ++ (before ++ (middle ++ behind))
-joined front before middle behind one two three four a b c d =
+pub joined : (front before middle after one two three four : List ℕ) → one ≡ front → two ≡ one ++ before → three ≡ two ++ middle → four ≡ three ++ after → four ≡ front ++ (before ++ (middle ++ after))
+joined front before middle after one two three four a b c d =
     d
-    ∙ ap (λ xs. xs ++ behind) (c ∙ ap (λ xs. xs ++ middle) (b ∙ ap (λ xs. xs ++ before) a))
-    ∙ append_assoc (front ++ before) middle behind
-    ∙ append_assoc front before (middle ++ behind)
+    ∙ ap (λ xs. xs ++ after) (c ∙ ap (λ xs. xs ++ middle) (b ∙ ap (λ xs. xs ++ before) a))
+    ∙ append_assoc (front ++ before) middle after
+    ∙ append_assoc front before (middle ++ after)

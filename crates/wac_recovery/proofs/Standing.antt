@@ -4,7 +4,7 @@ use Rattle.std.specs.Str.{IsUtf8, IsCharBoundary}
 use Rattle.std.proofs.lemmas.Str.{IsCharBoundary-start}
 use Rattle.wac_lexer.specs.Reading.{Slices}
 use Rattle.wac_lexer.specs.Span.{Span, span, end_of}
-use Rattle.wac_recovery.specs.Alone.{IsFaultBehind, IsFoundAt, IsFoundBeside, alone}
+use Rattle.wac_recovery.specs.Alone.{IsFaultAfter, IsFoundAt, IsFoundBeside, alone}
 use Rattle.wac_recovery.specs.Attempts.{stand_in}
 use Rattle.wac_recovery.specs.Faults.{IsFaultless, IsWrongWith, Wrong, moved_back}
 use Rattle.wac_recovery.specs.Statements.{part_at}
@@ -16,8 +16,8 @@ before source part utf8 slices =
     (IsCharBoundary-start source utf8, subst (IsCharBoundary source) end slices.0)
 
 -- what is wrong with the text that is tried, where it lies in the source
-pub behind : (source text : List ℕ) (start : ℕ) (found fault : Wrong) → text ≡ alone source start → IsWrongWith text found → fault ≡ moved_back (length stand_in) found → IsFaultBehind source start fault
-behind source text start found fault same wrong moved = record { found = found; is_wrong = subst (λ t. IsWrongWith t found) same wrong; moved = moved }
+pub after : (source text : List ℕ) (start : ℕ) (found fault : Wrong) → text ≡ alone source start → IsWrongWith text found → fault ≡ moved_back (length stand_in) found → IsFaultAfter source start fault
+after source text start found fault same wrong moved = record { found = found; is_wrong = subst (λ t. IsWrongWith t found) same wrong; moved = moved }
 
 -- nothing is wrong with it
 pub faultless : (source text : List ℕ) (start : ℕ) → text ≡ alone source start → IsFaultless text → IsFaultless (alone source start)

@@ -4,7 +4,7 @@ use Rattle.std.specs.Prelude.{IfSome, nat_lt, option_map}
 use Rattle.std.specs.Str.{IsCharBoundary}
 use Rattle.std.proofs.lemmas.Bool.{lt-ltb, le-ltb}
 use Rattle.std.proofs.lemmas.Str.{IsCharBoundary-end}
-use Rattle.wac_lexer.specs.Item.{Item, Handed, handed, behind_first}
+use Rattle.wac_lexer.specs.Item.{Item, NextToken, next_token, after_first_item}
 use Rattle.wac_lexer.specs.Reading.{Slices}
 use Rattle.wac_lexer.specs.Span.{Span, end_of}
 use Rattle.wac_lexer.specs.declared.token.Token.{Token}
@@ -20,29 +20,29 @@ by_end end place b x stop new is_end =
     cond is_end (cond (nat_lt place stop) (Some (up_to stop b)) (statement_among end place None new)) (statement_among end place (Some (after_item b x)) new)
 
 -- what is found at an item, with these after it
-abbrev pub found_at : ℕ → ℕ → Option Begun → List Item → Handed → Option Span
+abbrev pub found_at : ℕ → ℕ → Option Begun → List Item → NextToken → Option Span
 found_at end place begun xs None = option_map (up_to end) begun
-found_at end place begun xs (Some x) = let b = with_item begun x.0 x.1.offset in by_end end place b x.0 (end_of x.1) xs (ends b x.0 (handed xs))
+found_at end place begun xs (Some x) = let b = with_item begun x.0 x.1.offset in by_end end place b x.0 (end_of x.1) xs (ends b x.0 (next_token xs))
 
-one_more : (end place : ℕ) (begun : Option Begun) (items : List Item) → statement_among end place begun items ≡ found_at end place begun (behind_first items) (handed items)
+one_more : (end place : ℕ) (begun : Option Begun) (items : List Item) → statement_among end place begun items ≡ found_at end place begun (after_first_item items) (next_token items)
 one_more end place begun [] = refl
 one_more end place begun (x ∷ xs) = refl
 
 -- at the end of the items
-pub none_more : (end place : ℕ) (begun : Option Begun) (items : List Item) → None ≡ handed items → option_map (up_to end) begun ≡ statement_among end place begun items
-none_more end place begun items e = sym (one_more end place begun items ∙ ap (found_at end place begun (behind_first items)) (sym e))
+pub none_more : (end place : ℕ) (begun : Option Begun) (items : List Item) → None ≡ next_token items → option_map (up_to end) begun ≡ statement_among end place begun items
+none_more end place begun items e = sym (one_more end place begun items ∙ ap (found_at end place begun (after_first_item items)) (sym e))
 
 -- A step at an item: the values that it has computed.
-module _ (end place : ℕ) (begun : Option Begun) (old new : List Item) (next : Handed) (x : Result Token Error) (at : Span) (start stop : ℕ) (b : Begun) (is_end : Bool)
-    (gives : Some (x, at) ≡ handed old) (rest : new ≡ behind_first old) (starts : start ≡ at.offset) (stops : stop ≡ end_of at) (begins : b ≡ with_item begun x start) (peeks : next ≡ handed new)
+module _ (end place : ℕ) (begun : Option Begun) (old new : List Item) (next : NextToken) (x : Result Token Error) (at : Span) (start stop : ℕ) (b : Begun) (is_end : Bool)
+    (gives : Some (x, at) ≡ next_token old) (rest : new ≡ after_first_item old) (starts : start ≡ at.offset) (stops : stop ≡ end_of at) (begins : b ≡ with_item begun x start) (peeks : next ≡ next_token new)
     (tests : is_end ≡ ends b x next) where
   stepped : statement_among end place begun old ≡ by_end end place b x stop new is_end
   stepped =
       one_more end place begun old
-      ∙ ap (λ xs. found_at end place begun xs (handed old)) (sym rest)
+      ∙ ap (λ xs. found_at end place begun xs (next_token old)) (sym rest)
       ∙ ap (found_at end place begun new) (sym gives)
-      ∙ ap (λ n. let s = with_item begun x n in by_end end place s x (end_of at) new (ends s x (handed new))) (sym starts)
-      ∙ ap (λ s. by_end end place s x (end_of at) new (ends s x (handed new))) (sym begins)
+      ∙ ap (λ n. let s = with_item begun x n in by_end end place s x (end_of at) new (ends s x (next_token new))) (sym starts)
+      ∙ ap (λ s. by_end end place s x (end_of at) new (ends s x (next_token new))) (sym begins)
       ∙ ap (λ n. by_end end place b x (end_of at) new (ends b x n)) (sym peeks)
       ∙ ap (λ s. by_end end place b x s new (ends b x next)) (sym stops)
       ∙ ap (by_end end place b x stop new) (sym tests)

@@ -6,7 +6,7 @@ use Rattle.wac_recovery.specs.Blanked.{blanked}
 use Rattle.wac_recovery.specs.Statements.{leads, part_at}
 use Rattle.wac_recovery.specs.declared.attempt.Attempt.{Attempt as CodeAttempt}
 
--- a source with faulty statements blanked, behind so many bytes that it doesn't have
+-- a source with faulty statements blanked, after so many bytes that it doesn't have
 pub record Attempt : Type 0 where
   pub text : List ℕ
   pub skip : ℕ

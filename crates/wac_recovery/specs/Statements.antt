@@ -2,7 +2,7 @@
 use Rattle.std.specs.Prelude.{◌≡◌, refl, codes, ℕ, ◌+◌, ◌-◌, Bool, true, false, ◌&&◌, not, nat_eq, nat_le, nat_lt, List, [], ◌∷◌, length, Option, Some, None, Result, Ok, if◌then◌else◌}
 use Rattle.std.specs.Option.{option_map}
 use Rattle.wac_lexer.specs.Characters.{refused}
-use Rattle.wac_lexer.specs.Item.{Item, Handed, handed}
+use Rattle.wac_lexer.specs.Item.{Item, NextToken, next_token}
 use Rattle.wac_lexer.specs.Items.{items, items_from}
 use Rattle.wac_lexer.specs.Span.{Span, span, end_of}
 use Rattle.wac_lexer.specs.declared.token.Token.{Token}
@@ -39,14 +39,14 @@ sort_of x = if begins_plain x then Plain else (if begins_declaration x then Decl
 
 -- Whether a brace may end such a statement, before the next item. Where it isn't known which statement was meant, it
 -- does where no `;` follows.
-abbrev pub ends_with_brace : Sort → Handed → Bool
+abbrev pub ends_with_brace : Sort → NextToken → Bool
 ends_with_brace Plain next = false
 ends_with_brace Declaration next = true
 ends_with_brace Unknown next = not (is_next t.Semicolon next)
 
 -- Whether an item ends a statement, before the next one: `;` does outside braces, and a closing brace after which none
 -- is open, where one may.
-abbrev pub ends : Begun → Result Token Error → Handed → Bool
+abbrev pub ends : Begun → Result Token Error → NextToken → Bool
 ends b x next =
     if is_token t.Semicolon x then nat_eq b.depth 0
     else is_token t.CloseBrace x && (nat_le b.depth 1 && ends_with_brace b.sort next)
@@ -80,7 +80,7 @@ abbrev pub statement_among : ℕ → ℕ → Option Begun → List Item → Opti
 statement_among end place begun [] = option_map (up_to end) begun
 statement_among end place begun (x ∷ xs) =
     let b = with_item begun x.token x.span.offset in
-    if ends b x.token (handed xs)
+    if ends b x.token (next_token xs)
     then (if nat_lt place (end_of x.span) then Some (up_to (end_of x.span) b) else statement_among end place None xs)
     else statement_among end place (Some (after_item b x.token)) xs
 
@@ -98,14 +98,14 @@ abbrev pub part_at : List ℕ → ℕ → Option Span
 part_at text place = part_beside text place (refused text)
 
 -- whether a part begins where the first of the items does
-abbrev pub begins_at : Handed → ℕ → Bool
+abbrev pub begins_at : NextToken → ℕ → Bool
 begins_at None at = false
 begins_at (Some x) at = nat_eq x.1.offset at
 
 -- whether a part begins with the first item of a text, where its directive belongs
 abbrev pub leads_beside : List ℕ → Span → Option (Error × Span) → Bool
 leads_beside text part (Some found) = false
-leads_beside text part None = begins_at (handed (items text)) part.offset
+leads_beside text part None = begins_at (next_token (items text)) part.offset
 
 abbrev pub leads : List ℕ → Span → Bool
 leads text part = leads_beside text part (refused text)

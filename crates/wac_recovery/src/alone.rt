@@ -1,7 +1,7 @@
 //! Faults of statements that stand alone.
 ghost use Rattle.std.specs.Prelude.{◌≡◌, IfOk, option_map};
 ghost use Rattle.wac_lexer.specs.Reading.{Slices};
-ghost use Rattle.wac_recovery.specs.Alone.{IsFirstBehind, IsFoundAt, at_place};
+ghost use Rattle.wac_recovery.specs.Alone.{IsFirstAfter, IsFoundAt, at_place};
 ghost use Rattle.wac_recovery.specs.Faults.{wrong_of};
 
 use crate::attempt::STAND_IN;
@@ -22,11 +22,11 @@ fn at_place(fault: Fault, place: usize) -> Option<Fault>
     }
 }
 
-/// What is wrong first with a source from a part of it on, behind a directive that stands in.
-#[tactic(auto, using(crate::proofs::Standing::before, crate::proofs::Standing::behind))]
-fn fault_behind(alloc: Global, source: &str, part: SourceSpan) -> Result<Option<Fault>, AllocError>
+/// What is wrong first with a source from a part of it on, after a directive that stands in.
+#[tactic(auto, using(crate::proofs::Standing::before, crate::proofs::Standing::after))]
+fn fault_after(alloc: Global, source: &str, part: SourceSpan) -> Result<Option<Fault>, AllocError>
     requires { Slices source.now part }
-    ensures { IfOk result (λ found. IsFirstBehind source.now part.offset (option_map wrong_of found)) }
+    ensures { IfOk result (λ found. IsFirstAfter source.now part.offset (option_map wrong_of found)) }
 {
     let text = blanked(alloc, STAND_IN, source, SourceSpan::new(0, part.offset()))?;
     match first_fault(alloc, text.as_str()) {
@@ -51,7 +51,7 @@ pub fn fault_at(alloc: Global, source: &str, place: usize) -> Result<Option<Faul
     let Some(part) = part_at(source, place) else {
         return Ok(None);
     };
-    match fault_behind(alloc, source, part.span) {
+    match fault_after(alloc, source, part.span) {
         Ok(Some(fault)) => Ok(at_place(fault, place)),
         Ok(None) => Ok(None),
         Err(_) => Err(AllocError),

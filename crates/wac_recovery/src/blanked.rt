@@ -28,7 +28,7 @@ fn push_blanks(found: &mut String, part: &str) -> Result<(), AllocError>
     Ok(())
 }
 
-/// A text of which one part is blanked, behind another one.
+/// A text of which one part is blanked, after another one.
 pub(crate) fn blanked(
     alloc: Global,
     front: &str,
@@ -39,10 +39,10 @@ pub(crate) fn blanked(
     ensures { IfOk result (λ found. string_bytes found ≡ front.now ++ blanked part text.now) }
 {
     let (before, rest) = text.split_at(part.offset());
-    let (part, behind) = rest.split_at(part.len());
+    let (part, after) = rest.split_at(part.len());
     let mut found = String::from_str(alloc, front)?;
     found.push_str(before)?;
     push_blanks(&mut found, part)?;
-    found.push_str(behind)?;
+    found.push_str(after)?;
     Ok(found)
 }

@@ -23,7 +23,7 @@ ghost use Rattle.wac_recovery.specs.Statements.{
 use wac_lexer::{Lexer, LexerResult, SourceSpan, Token, refused_characters_are_first};
 
 /// An item as a lexer gives it.
-type Handed = Option<(LexerResult<Token>, SourceSpan)>;
+type NextToken = Option<(LexerResult<Token>, SourceSpan)>;
 
 /// What may end a statement.
 #[derive(Clone, Copy)]
@@ -105,7 +105,7 @@ pub fn begins_declaration(item: LexerResult<Token>) -> bool
 }
 
 /// Whether the next item is `;`.
-fn is_semicolon(next: Handed) -> bool
+fn is_semicolon(next: NextToken) -> bool
     ensures { result ≡ is_next Semicolon next }
 {
     match next {
@@ -115,7 +115,7 @@ fn is_semicolon(next: Handed) -> bool
 }
 
 /// Whether the next item is at an offset.
-fn begins_at(next: Handed, offset: usize) -> bool
+fn begins_at(next: NextToken, offset: usize) -> bool
     ensures { result ≡ begins_at next offset }
 {
     match next {
@@ -156,7 +156,7 @@ impl Sort {
     }
 
     /// Whether a closing brace may end such a statement, before the next item.
-    fn ends_with_brace(self, next: Handed) -> bool
+    fn ends_with_brace(self, next: NextToken) -> bool
         ensures { result ≡ ends_with_brace self next }
     {
         match self {
@@ -183,7 +183,7 @@ impl Begun {
     }
 
     /// Whether an item ends it, before the next one.
-    fn ends(self, item: LexerResult<Token>, next: Handed) -> bool
+    fn ends(self, item: LexerResult<Token>, next: NextToken) -> bool
         ensures { result ≡ ends self item next }
     {
         if is_token(item, Token::Semicolon) {

@@ -13,9 +13,9 @@ lower low place [] high l h = omega (arith, l, h)
 lower low place (m ∷ ms) high l h = (omega (arith, l, h.0), h.1)
 
 -- some after others
-pub behind : (ms ns : List Mention) (low place high : ℕ) → Between low ms place → Between place ns high → Between low (ms ++ ns) high
-behind [] ns low place high h k = lower low place ns high h k
-behind (m ∷ ms) ns low place high h k = (h.0, behind ms ns (m.1.offset + 1) place high h.1 k)
+pub after : (ms ns : List Mention) (low place high : ℕ) → Between low ms place → Between place ns high → Between low (ms ++ ns) high
+after [] ns low place high h k = lower low place ns high h k
+after (m ∷ ms) ns low place high h k = (h.0, after ms ns (m.1.offset + 1) place high h.1 k)
 
 -- one or none
 pub perhaps_one : (none : Bool) (m : Mention) (low high : ℕ) → low ≤ m.1.offset → m.1.offset < high → Between low (if none then [] else (m ∷ [])) high

@@ -16,9 +16,9 @@ pub use Rattle.wac_ast_worlds.specs.Worlds.{import_statement_of, import_type_of,
 pub use Rattle.wac_graph.proofs.Lists.{all_implies, get_last}
 pub use Rattle.wac_graph.specs.Graph.{Parts, empty}
 pub use Rattle.wac_graph.specs.Means.{declared_count, entry_means, means}
-pub use Rattle.wac_graph.specs.Origin.{IsOneToOne, Naming}
+pub use Rattle.wac_graph.specs.Origin.{IsOneToOne, Numbering}
 pub use Rattle.wac_graph.specs.Package.{HeldPackage, Key, key_of, same_key, same_version}
-pub use Rattle.wac_graph.specs.Packages.{Contents, Packages, contents_in, contents_of, handed, package_of}
+pub use Rattle.wac_graph.specs.Packages.{Contents, Packages, contents_in, contents_of, supplied_packages, package_of}
 pub use Rattle.wac_graph.specs.declared.package_key.PackageKey.{PackageKey}
 pub use Rattle.wac_graph_types.specs.Kind.{a_world, an_interface, promoted}
 pub use Rattle.wac_graph_types.specs.Meaning.{Meaning}
@@ -29,7 +29,7 @@ pub use Rattle.wac_graph_types.specs.declared.kind.ItemKind.{ItemKind}
 pub use Rattle.wac_lexer.specs.Span.{Span, end_of}
 pub use Rattle.wac_resolution_errors.proofs.Reports.{if_reports, reports}
 pub use Rattle.wac_resolution_errors.specs.Error.{Error, Reports, memory}
-pub use Rattle.wac_resolution_errors.specs.Told.{told}
+pub use Rattle.wac_resolution_errors.specs.ErrorModel.{error_model}
 pub use Rattle.wac_resolution_expressions.specs.Growth.{given_in}
 pub use Rattle.wac_resolution_rules.proofs.FirstFailing.{describes_once, fails_at, fails_at_target, first_has_none, leads_composes}
 pub use Rattle.wac_resolution_rules.specs.BrokenStatements.{ImportNameBroken, StatementBroken}
@@ -44,9 +44,9 @@ pub use Rattle.wac_resolution_rules.specs.Spans.{import_span}
 pub use Rattle.wac_resolution_rules.specs.Statements.{Composes, Imports, name_imported}
 pub use Rattle.wac_resolution_rules.specs.TypeStatements.{Defines, declared_id, defining, identifier_of}
 pub use Rattle.wac_resolution_rules.specs.Worlds.{IsInterface, IsWorld}
-pub use Rattle.wac_resolution_state.proofs.Expanding.{expands_self, grows_expands, handed_grown}
+pub use Rattle.wac_resolution_state.proofs.Expanding.{expands_self, grows_expands, supplied_grown}
 pub use Rattle.wac_resolution_state.proofs.Roots.{items_named, scope_agrees}
-pub use Rattle.wac_resolution_state.proofs.Scopes.{memory_told}
+pub use Rattle.wac_resolution_state.proofs.Scopes.{memory_model}
 pub use Rattle.wac_resolution_state.specs.Bindings.{Bindings, places_of, values_of}
 pub use Rattle.wac_resolution_state.specs.Context.{context_of, packages_in}
 pub use Rattle.wac_resolution_state.specs.Expands.{AllSupplied, Found, IsSuppliedAs}

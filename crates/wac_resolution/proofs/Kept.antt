@@ -1,5 +1,5 @@
 -- What is right with the packages that are mentioned is right with all that were supplied.
-use Rattle.wac_resolution.proofs.Common.{◌≡◌, ◌∙◌, ◌↔◌, ℕ, List, [], ◌∷◌, filter, Some, Result, Ok, Err, Bool, true, false, cond, inl, inr, refl, sym, ap, subst, AllByRecursion, PackageParts, Named, version_text, PackageKey, Parts, Naming, HeldPackage, Key, key_of, same_key, Contents, Packages, contents_in, contents_of, handed, package_of, Error, Composition, Given, Rules, IsMentioned, Mention, given_over, is_mentioned, kept, mentions, Describes, FirstClause, FirstFailing, GraphClause, OnlyClause, given_to, AllSupplied, IsSuppliedAs}
+use Rattle.wac_resolution.proofs.Common.{◌≡◌, ◌∙◌, ◌↔◌, ℕ, List, [], ◌∷◌, filter, Some, Result, Ok, Err, Bool, true, false, cond, inl, inr, refl, sym, ap, subst, AllByRecursion, PackageParts, Named, version_text, PackageKey, Parts, Numbering, HeldPackage, Key, key_of, same_key, Contents, Packages, contents_in, contents_of, supplied_packages, package_of, Error, Composition, Given, Rules, IsMentioned, Mention, given_over, is_mentioned, kept, mentions, Describes, FirstClause, FirstFailing, GraphClause, OnlyClause, given_to, AllSupplied, IsSuppliedAs}
 use Rattle.wac_resolution.specs.Packages.{OnlyTheseMatter}
 use Rattle.wac_ast_grammar.specs.Tree.{Document}
 use Rattle.wac_graph.proofs.Keys.{keys_same}
@@ -18,13 +18,13 @@ by_key_kept ms (e ∷ es) = go (is_mentioned ms (key_of e.0)) (by_key_kept ms es
     go true same = ap (λ (l : List (Key × PackageParts)). (key_of e.0, e.1) ∷ l) same
     go false same = same
 
-handed_kept : (naming : Naming) (ms : List Mention) (ps : List (Key × PackageParts)) → handed naming (kept ms ps) ≡ kept ms (handed naming ps)
-handed_kept naming ms [] = refl
-handed_kept naming ms (p ∷ ps) = go (is_mentioned ms p.0) (handed_kept naming ms ps)
+supplied_kept : (numbering : Numbering) (ms : List Mention) (ps : List (Key × PackageParts)) → supplied_packages numbering (kept ms ps) ≡ kept ms (supplied_packages numbering ps)
+supplied_kept numbering ms [] = refl
+supplied_kept numbering ms (p ∷ ps) = go (is_mentioned ms p.0) (supplied_kept numbering ms ps)
   where
-    go : (b : Bool) → handed naming (kept ms ps) ≡ kept ms (handed naming ps)
-        → handed naming (cond b (p ∷ kept ms ps) (kept ms ps)) ≡ cond b ((p.0, contents_of naming p.0 p.1) ∷ kept ms (handed naming ps)) (kept ms (handed naming ps))
-    go true same = ap (λ (l : Packages). (p.0, contents_of naming p.0 p.1) ∷ l) same
+    go : (b : Bool) → supplied_packages numbering (kept ms ps) ≡ kept ms (supplied_packages numbering ps)
+        → supplied_packages numbering (cond b (p ∷ kept ms ps) (kept ms ps)) ≡ cond b ((p.0, contents_of numbering p.0 p.1) ∷ kept ms (supplied_packages numbering ps)) (kept ms (supplied_packages numbering ps))
+    go true same = ap (λ (l : Packages). (p.0, contents_of numbering p.0 p.1) ∷ l) same
     go false same = same
 
 -- a package that is found among those that are kept is mentioned
@@ -52,9 +52,9 @@ found_in_all ms key (e ∷ es) p h = go (is_mentioned ms e.0) (same_key key e.0)
 
 -- ---- a document
 
--- any naming serves, since keys do not depend on it
-some_naming : Naming
-some_naming origin = 0
+-- any numbering serves, since keys do not depend on it
+some_numbering : Numbering
+some_numbering origin = 0
 
 pub holds_mentioned : (doc : Document) (packages others : List (PackageKey × PackageParts)) (g : Parts) → IsKept doc packages others → AllSupplied (by_key others) g → HoldsMentioned (mentions doc) g
 holds_mentioned doc packages others g k h = each g.packages (subst (λ (l : List (Key × PackageParts)). AllSupplied l g) k.are h)
@@ -62,37 +62,37 @@ holds_mentioned doc packages others g k h = each g.packages (subst (λ (l : List
     each : (held : List HeldPackage) → AllByRecursion (IsSuppliedAs (kept k.these (by_key packages)) g) held → AllByRecursion (λ (p : HeldPackage). IsMentioned (mentions doc) p.key) held
     each [] all = tt
     each (p ∷ held) all =
-        let contents : Contents = contents_in some_naming g p in
-        let found = subst (λ (ps : Packages). package_of p.key ps ≡ Some contents) (handed_kept some_naming k.these (by_key packages)) (all.0.contents some_naming) in
-        ((k.first.keys p.key).0 (found_mentioned k.these p.key (handed some_naming (by_key packages)) contents found), each held all.1)
+        let contents : Contents = contents_in some_numbering g p in
+        let found = subst (λ (ps : Packages). package_of p.key ps ≡ Some contents) (supplied_kept some_numbering k.these (by_key packages)) (all.0.contents some_numbering) in
+        ((k.first.keys p.key).0 (found_mentioned k.these p.key (supplied_packages some_numbering (by_key packages)) contents found), each held all.1)
 
 pub holds_supplied : (doc : Document) (packages others : List (PackageKey × PackageParts)) (g : Parts) → IsKept doc packages others → HoldsSupplied others g → HoldsSupplied packages g
 holds_supplied doc packages others g k h = each g.packages (subst (λ (l : List (Key × PackageParts)). AllSupplied l g) k.are h)
   where
-    found : (naming : Naming) (p : HeldPackage) → IsSuppliedAs (kept k.these (by_key packages)) g p → package_of p.key (handed naming (by_key packages)) ≡ Some (contents_in naming g p)
-    found naming p is =
-        found_in_all k.these p.key (handed naming (by_key packages)) (contents_in naming g p)
-        (subst (λ (ps : Packages). package_of p.key ps ≡ Some (contents_in naming g p)) (handed_kept naming k.these (by_key packages)) (is.contents naming))
+    found : (numbering : Numbering) (p : HeldPackage) → IsSuppliedAs (kept k.these (by_key packages)) g p → package_of p.key (supplied_packages numbering (by_key packages)) ≡ Some (contents_in numbering g p)
+    found numbering p is =
+        found_in_all k.these p.key (supplied_packages numbering (by_key packages)) (contents_in numbering g p)
+        (subst (λ (ps : Packages). package_of p.key ps ≡ Some (contents_in numbering g p)) (supplied_kept numbering k.these (by_key packages)) (is.contents numbering))
 
     each : (held : List HeldPackage) → AllByRecursion (IsSuppliedAs (kept k.these (by_key packages)) g) held → AllByRecursion (IsSuppliedAs (by_key packages) g) held
     each [] all = tt
-    each (p ∷ held) all = (record { there = all.0.there; contents = λ naming. found naming p all.0 }, each held all.1)
+    each (p ∷ held) all = (record { there = all.0.there; contents = λ numbering. found numbering p all.0 }, each held all.1)
 
-given_kept : (naming : Naming) (ms : List Mention) (ps : List (Key × PackageParts)) (rules : Rules) (doc : Document) → given_to naming (kept ms ps) rules doc ≡ given_over (given_to naming ps rules doc) (kept ms (handed naming ps))
-given_kept naming ms ps rules doc = λ i. record {
-  context = record { naming = naming; own = doc.directive.package_name.name; version = version_text doc.directive.package_name.string; packages = handed_kept naming ms ps i };
+given_kept : (numbering : Numbering) (ms : List Mention) (ps : List (Key × PackageParts)) (rules : Rules) (doc : Document) → given_to numbering (kept ms ps) rules doc ≡ given_over (given_to numbering ps rules doc) (kept ms (supplied_packages numbering ps))
+given_kept numbering ms ps rules doc = λ i. record {
+  context = record { numbering = numbering; own = doc.directive.package_name.name; version = version_text doc.directive.package_name.string; packages = supplied_kept numbering ms ps i };
   rules = rules;
 }
 
-describes_with_all : (doc : Document) (these : List Mention) → OnlyTheseMatter doc these → (naming : Naming) (ps : List (Key × PackageParts)) (rules : Rules) (c : Composition)
-    → Describes (given_to naming (kept these ps) rules doc) doc c ↔ Describes (given_to naming ps rules doc) doc c
-describes_with_all doc these only naming ps rules c =
-    subst (λ (s : Given). Describes s doc c ↔ Describes (given_to naming ps rules doc) doc c) (sym (given_kept naming these ps rules doc)) (only.describes (given_to naming ps rules doc) (handed naming ps) c refl)
+describes_with_all : (doc : Document) (these : List Mention) → OnlyTheseMatter doc these → (numbering : Numbering) (ps : List (Key × PackageParts)) (rules : Rules) (c : Composition)
+    → Describes (given_to numbering (kept these ps) rules doc) doc c ↔ Describes (given_to numbering ps rules doc) doc c
+describes_with_all doc these only numbering ps rules c =
+    subst (λ (s : Given). Describes s doc c ↔ Describes (given_to numbering ps rules doc) doc c) (sym (given_kept numbering these ps rules doc)) (only.describes (given_to numbering ps rules doc) (supplied_packages numbering ps) c refl)
 
-fails_with_all : (doc : Document) (these : List Mention) → OnlyTheseMatter doc these → (naming : Naming) (ps : List (Key × PackageParts)) (rules : Rules) (e : Error)
-    → FirstFailing (given_to naming (kept these ps) rules doc) doc e ↔ FirstFailing (given_to naming ps rules doc) doc e
-fails_with_all doc these only naming ps rules e =
-    subst (λ (s : Given). FirstFailing s doc e ↔ FirstFailing (given_to naming ps rules doc) doc e) (sym (given_kept naming these ps rules doc)) (only.fails (given_to naming ps rules doc) (handed naming ps) e refl)
+fails_with_all : (doc : Document) (these : List Mention) → OnlyTheseMatter doc these → (numbering : Numbering) (ps : List (Key × PackageParts)) (rules : Rules) (e : Error)
+    → FirstFailing (given_to numbering (kept these ps) rules doc) doc e ↔ FirstFailing (given_to numbering ps rules doc) doc e
+fails_with_all doc these only numbering ps rules e =
+    subst (λ (s : Given). FirstFailing s doc e ↔ FirstFailing (given_to numbering ps rules doc) doc e) (sym (given_kept numbering these ps rules doc)) (only.fails (given_to numbering ps rules doc) (supplied_packages numbering ps) e refl)
 
 -- ---- what is promised
 
@@ -101,26 +101,26 @@ Clauses = Given → Document → Result Composition Error → Type 0
 
 -- a clause that holds with these packages holds with all of them
 abbrev WithAll : Clauses → Document → Type 0
-WithAll Clause doc = (these : List Mention) → OnlyTheseMatter doc these → (naming : Naming) (ps : List (Key × PackageParts)) (rules : Rules) (r : Result Composition Error)
-    → Clause (given_to naming (kept these ps) rules doc) doc r → Clause (given_to naming ps rules doc) doc r
+WithAll Clause doc = (these : List Mention) → OnlyTheseMatter doc these → (numbering : Numbering) (ps : List (Key × PackageParts)) (rules : Rules) (r : Result Composition Error)
+    → Clause (given_to numbering (kept these ps) rules doc) doc r → Clause (given_to numbering ps rules doc) doc r
 
 graph_with_all : (doc : Document) → WithAll GraphClause doc
-graph_with_all doc these only naming ps rules (Ok c) h = (describes_with_all doc these only naming ps rules c).0 h
-graph_with_all doc these only naming ps rules (Err e) h = h
+graph_with_all doc these only numbering ps rules (Ok c) h = (describes_with_all doc these only numbering ps rules c).0 h
+graph_with_all doc these only numbering ps rules (Err e) h = h
 
 only_with_all : (doc : Document) → WithAll OnlyClause doc
-only_with_all doc these only naming ps rules (Ok c) h = h
-only_with_all doc these only naming ps rules (Err e) h = λ c described. h c ((describes_with_all doc these only naming ps rules c).1 described)
+only_with_all doc these only numbering ps rules (Ok c) h = h
+only_with_all doc these only numbering ps rules (Err e) h = λ c described. h c ((describes_with_all doc these only numbering ps rules c).1 described)
 
 first_with_all : (doc : Document) → WithAll FirstClause doc
-first_with_all doc these only naming ps rules (Ok c) h = h
-first_with_all doc these only naming ps rules (Err e) (inl m) = inl m
-first_with_all doc these only naming ps rules (Err e) (inr f) = inr ((fails_with_all doc these only naming ps rules e).0 f)
+first_with_all doc these only numbering ps rules (Ok c) h = h
+first_with_all doc these only numbering ps rules (Err e) (inl m) = inl m
+first_with_all doc these only numbering ps rules (Err e) (inr f) = inr ((fails_with_all doc these only numbering ps rules e).0 f)
 
 promised_with_all : (Clause : Clauses) (doc : Document) → WithAll Clause doc → (packages others : List (PackageKey × PackageParts)) → IsKept doc packages others → (rules : Rules) (declared : Named ℕ) (result : Result Resolved CodeError)
     → Promised Clause (call others rules doc result) declared → Promised Clause (call packages rules doc result) declared
-promised_with_all Clause doc step packages others k rules declared result h = λ naming one.
-    step k.these k.matter naming (by_key packages) rules (returned naming declared result) (subst (λ (l : List (Key × PackageParts)). Clause (given_to naming l rules doc) doc (returned naming declared result)) k.are (h naming one))
+promised_with_all Clause doc step packages others k rules declared result h = λ numbering one.
+    step k.these k.matter numbering (by_key packages) rules (returned numbering declared result) (subst (λ (l : List (Key × PackageParts)). Clause (given_to numbering l rules doc) doc (returned numbering declared result)) k.are (h numbering one))
 
 pub promised_graph : (doc : Document) (packages others : List (PackageKey × PackageParts)) → IsKept doc packages others → (rules : Rules) (declared : Named ℕ) (result : Result Resolved CodeError)
     → Promised GraphClause (call others rules doc result) declared → Promised GraphClause (call packages rules doc result) declared

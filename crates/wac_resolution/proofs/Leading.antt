@@ -1,5 +1,5 @@
 -- Type statements take one composition to the next.
-use Rattle.wac_resolution.proofs.Common.{◌≡◌, ◌∙◌, ℕ, zero, suc, List, [], ◌∷◌, ◌++◌, Option, None, inl, inr, refl, sym, ap, subst, append-nil, filter_map, cons_option, Span, TypeStatement, ItemKind, Meaning, PackageParts, Named, with_named, Parts, means, declared_count, Naming, Key, all_implies, Error, DefinitionBroken, KindBroken, Composition, Node, definition, named_at, Rules, import_of, imports, next_of, Places, more_at, places_after, identifier_of, Defines, defining, Root, composed, Context, IsSuppliedAs, AllSupplied, packages_in, context_of, Externs, places_in, IsDefined, Stand, StatementRun, Breaks, composed_kept}
+use Rattle.wac_resolution.proofs.Common.{◌≡◌, ◌∙◌, ℕ, zero, suc, List, [], ◌∷◌, ◌++◌, Option, None, inl, inr, refl, sym, ap, subst, append-nil, filter_map, cons_option, Span, TypeStatement, ItemKind, Meaning, PackageParts, Named, with_named, Parts, means, declared_count, Numbering, Key, all_implies, Error, DefinitionBroken, KindBroken, Composition, Node, definition, named_at, Rules, import_of, imports, next_of, Places, more_at, places_after, identifier_of, Defines, defining, Root, composed, Context, IsSuppliedAs, AllSupplied, packages_in, context_of, Externs, places_in, IsDefined, Stand, StatementRun, Breaks, composed_kept}
 use Rattle.wac_ast_grammar.specs.Tree.{Statement}
 use Rattle.wac_resolution_rules.proofs.Prefixes.{named_at_suc}
 use Rattle.wac_resolution_statements.specs.Exports.{GrowsExports}
@@ -48,34 +48,34 @@ places_defined old new p q s m n is bound imported exported =
 -- ---- what is kept beside the graph
 
 -- the packages are still held as they were supplied
-handed_exports : (packages : List (Key × PackageParts)) (old new : Parts) → GrowsExports old new → AllSupplied packages old → AllSupplied packages new
-handed_exports packages old new g h =
+supplied_exports : (packages : List (Key × PackageParts)) (old new : Parts) → GrowsExports old new → AllSupplied packages old → AllSupplied packages new
+supplied_exports packages old new g h =
     let more = record old { nodes = new.nodes; exports = new.exports } in
     subst (AllSupplied packages) (sym g.same) (all_implies (IsSuppliedAs packages old) (IsSuppliedAs packages more) (λ p held. record { there = held.there; contents = held.contents }) old.packages h)
 
 pub went : (context : Context) (old mid new : Parts) (before after : Root) (x y : Externs) (s : TypeStatement) (k : ItemKind) → Stand context old before x → KindDeclared context old mid before s k
     → IsDefined mid new before after x y (identifier_of s) k → (rules : Rules) → StatementRun context rules old new before after x y (Statement.type_statement s)
 went context old mid new before after x y s k stand kind h rules = record {
-  stand = record { agrees = h.agrees; placed = h.placed; supplied = handed_exports (packages_in context) mid new h.grows kind.supplied };
-  leads = λ naming one.
-      let defines : Defines (composed naming old before) (identifier_of s).string (means naming mid k) (declared_count mid) (composed naming new after) =
-      subst (λ (c : Composition). Defines c (identifier_of s).string (means naming mid k) (declared_count mid) (composed naming new after)) (composed_kept old mid before naming kind.grows stand.agrees) (h.defines naming) in (
-        (means naming mid k, declared_count mid, kind.is naming, defines),
-        places_defined (composed naming old before) (composed naming new after) (places_in before x) (places_in after y) s (means naming mid k) (declared_count mid) defines.2 h.bound h.imported h.exported,
+  stand = record { agrees = h.agrees; placed = h.placed; supplied = supplied_exports (packages_in context) mid new h.grows kind.supplied };
+  leads = λ numbering one.
+      let defines : Defines (composed numbering old before) (identifier_of s).string (means numbering mid k) (declared_count mid) (composed numbering new after) =
+      subst (λ (c : Composition). Defines c (identifier_of s).string (means numbering mid k) (declared_count mid) (composed numbering new after)) (composed_kept old mid before numbering kind.grows stand.agrees) (h.defines numbering) in (
+        (means numbering mid k, declared_count mid, kind.is numbering, defines),
+        places_defined (composed numbering old before) (composed numbering new after) (places_in before x) (places_in after y) s (means numbering mid k) (declared_count mid) defines.2 h.bound h.imported h.exported,
       );
 }
 
 -- ---- what is reported
 
-pub kind_breaks : (context : Context) (g : Parts) (root : Root) (x : Externs) (s : TypeStatement) (e : Error) → ((naming : Naming) → KindBroken (context_of naming context) (composed naming g root) s e)
+pub kind_breaks : (context : Context) (g : Parts) (root : Root) (x : Externs) (s : TypeStatement) (e : Error) → ((numbering : Numbering) → KindBroken (context_of numbering context) (composed numbering g root) s e)
     → (rules : Rules) → Breaks context rules g root x (Statement.type_statement s) e
-kind_breaks context g root x s e h rules naming one = inl (h naming)
+kind_breaks context g root x s e h rules numbering one = inl (h numbering)
 
 pub definition_breaks : (context : Context) (old mid : Parts) (root : Root) (x : Externs) (s : TypeStatement) (k : ItemKind) (e : Error) → Stand context old root x → KindDeclared context old mid root s k
-    → ((naming : Naming) → DefinitionBroken (composed naming mid root) (places_in root x) (identifier_of s) e) → (rules : Rules) → Breaks context rules old root x (Statement.type_statement s) e
-definition_breaks context old mid root x s k e stand kind h rules naming one = inr (
-  means naming mid k,
+    → ((numbering : Numbering) → DefinitionBroken (composed numbering mid root) (places_in root x) (identifier_of s) e) → (rules : Rules) → Breaks context rules old root x (Statement.type_statement s) e
+definition_breaks context old mid root x s k e stand kind h rules numbering one = inr (
+  means numbering mid k,
   declared_count mid,
-  kind.is naming,
-  subst (λ (c : Composition). DefinitionBroken c (places_in root x) (identifier_of s) e) (composed_kept old mid root naming kind.grows stand.agrees) (h naming),
+  kind.is numbering,
+  subst (λ (c : Composition). DefinitionBroken c (places_in root x) (identifier_of s) e) (composed_kept old mid root numbering kind.grows stand.agrees) (h numbering),
 )

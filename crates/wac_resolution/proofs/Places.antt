@@ -14,7 +14,7 @@ use Rattle.wac_ast_grammar.proofs.Complete.{Family}
 use Rattle.wac_resolution_rules.specs.Given.{key_named}
 use Rattle.wac_resolution_rules.specs.Paths.{key_of_path}
 use Rattle.wac_resolution.specs.Ascending.{Ascend}
-use Rattle.wac_resolution.proofs.Between.{Between, lower, behind, left_out, perhaps_one, ascending}
+use Rattle.wac_resolution.proofs.Between.{Between, lower, after, left_out, perhaps_one, ascending}
 
 -- ---- what trees and parts mention
 
@@ -163,9 +163,9 @@ abbrev ends : ℕ → List Item → ℕ
 ends place [] = place
 ends place (x ∷ xs) = ends (end_of x.span) xs
 
-ends_behind : (place : ℕ) (a b : List Item) → ends place (a ++ b) ≡ ends (ends place a) b
-ends_behind place [] b = refl
-ends_behind place (x ∷ a) b = ends_behind (end_of x.span) a b
+ends_after : (place : ℕ) (a b : List Item) → ends place (a ++ b) ≡ ends (ends place a) b
+ends_after place [] b = refl
+ends_after place (x ∷ a) b = ends_after (end_of x.span) a b
 
 reach : (source : List ℕ) (place : ℕ) (xs : List Item) → InOrder source place xs → place ≤ ends place xs
 reach source place [] o = omega arith
@@ -197,7 +197,7 @@ module _ (own source : List ℕ) where
         let front = parts_between g d.0 p.0 low (in_front source low d.0 d.1 all) d.3 in
         let rest = parts_between k d.1 p.1 (ends low d.0) (in_back source low d.0 d.1 all) d.4 in
         subst (λ l. Between low (parts_said own (then g k) p) (ends low l)) (back d.2)
-        (subst (Between low (parts_said own (then g k) p)) (back (ends_behind low d.0 d.1)) (behind (parts_said own g p.0) (parts_said own k p.1) low (ends low d.0) (ends (ends low d.0) d.1) front rest))
+        (subst (Between low (parts_said own (then g k) p)) (back (ends_after low d.0 d.1)) (after (parts_said own g p.0) (parts_said own k p.1) low (ends low d.0) (ends (ends low d.0) d.1) front rest))
     parts_between (either loud g k) xs (inl p) low o d = parts_between g xs p low o d
     parts_between (either loud g k) xs (inr p) low o d = parts_between k xs p low o d
     parts_between (nothing b) xs p low o d = reach source low xs o

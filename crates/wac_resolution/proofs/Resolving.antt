@@ -1,5 +1,5 @@
 -- What resolving promises, from what its parts do.
-use Rattle.wac_resolution.proofs.Common.{◌≡◌, List, [], Result, Ok, Err, IfOk, IfErr, IfOk-weaker, inl, refl, sym, subst, map, option_map, PackageParts, document_of, statement_of, package_path_of, PackageKey, Parts, Reports, told, memory, Rules, mentions, Context}
+use Rattle.wac_resolution.proofs.Common.{◌≡◌, List, [], Result, Ok, Err, IfOk, IfErr, IfOk-weaker, inl, refl, sym, subst, map, option_map, PackageParts, document_of, statement_of, package_path_of, PackageKey, Parts, Reports, error_model, memory, Rules, mentions, Context}
 use Rattle.wac_ast.specs.declared.document.Document.{Document as CodeDocument}
 use Rattle.wac_ast.specs.declared.statement.Statement.{Statement as CodeStatement}
 use Rattle.wac_ast_grammar.specs.Tree.{Document}
@@ -8,7 +8,7 @@ use Rattle.wac_resolution.specs.Resolved.{HoldsMentioned, HoldsSupplied, Resolve
 use Rattle.wac_resolution.specs.Resolves.{IsKept, Resolves, ResolvesOver}
 use Rattle.wac_resolution.specs.Steps.{Breaks, Composed}
 use Rattle.wac_resolution.proofs.Alike.{error_is_right, result_is_right}
-use Rattle.wac_resolution.proofs.Ending.{IsLent, lent_described, lent_fails, lent_handed, lent_only}
+use Rattle.wac_resolution.proofs.Ending.{IsLent, lent_described, lent_fails, lent_supplied, lent_only}
 use Rattle.wac_resolution.proofs.Kept.{holds_mentioned, holds_supplied, promised_first, promised_graph, promised_only}
 
 -- ---- with all of the packages
@@ -16,19 +16,19 @@ use Rattle.wac_resolution.proofs.Kept.{holds_mentioned, holds_supplied, promised
 -- what is returned for a borrowed document
 pub resolved_over : (context : Context) (rules : Rules) (packages : List (PackageKey × PackageParts)) (lent doc : CodeDocument) (statements : List CodeStatement) (r : Result Parts CodeError) → IsLent context packages lent doc statements
     → IfOk r (λ g. Composed context rules (map statement_of statements) (option_map package_path_of lent.directive.targets) g)
-    → IfErr r (λ e. Reports (told e) (Breaks context rules (map statement_of statements) (option_map package_path_of lent.directive.targets) (told e)))
+    → IfErr r (λ e. Reports (error_model e) (Breaks context rules (map statement_of statements) (option_map package_path_of lent.directive.targets) (error_model e)))
     → ResolvesOver packages rules (document_of doc) (in_resolution doc r)
 resolved_over context rules packages lent doc statements (Ok g) is composed said = record {
-  supplied = lent_handed context rules packages lent doc statements g is composed;
+  supplied = lent_supplied context rules packages lent doc statements g is composed;
   graph = lent_described context rules packages lent doc statements g is composed;
-  only = λ declared naming one. tt;
-  first = λ declared naming one. tt;
+  only = λ declared numbering one. tt;
+  first = λ declared numbering one. tt;
 }
 resolved_over context rules packages lent doc statements (Err e) is composed said = record {
   supplied = tt;
-  graph = ([], λ naming one. tt);
-  only = λ declared. lent_only context rules packages lent doc statements (told e) is said;
-  first = λ declared. lent_fails context rules packages lent doc statements (told e) is said;
+  graph = ([], λ numbering one. tt);
+  only = λ declared. lent_only context rules packages lent doc statements (error_model e) is said;
+  first = λ declared. lent_fails context rules packages lent doc statements (error_model e) is said;
 }
 
 -- ---- with those that the document mentions
@@ -61,15 +61,15 @@ resolves doc a b packages others rules r a_is b_is kept over =
     (subst (λ (d : CodeDocument). ResolvesOver others rules (document_of d) (in_resolution d r)) b_is over)
 
 -- the packages that are mentioned can't be listed
-pub ran_out : (doc : CodeDocument) (packages : List (PackageKey × PackageParts)) (rules : Rules) (e : CodeError) → told e ≡ memory → Resolves packages rules doc (Err e)
+pub ran_out : (doc : CodeDocument) (packages : List (PackageKey × PackageParts)) (rules : Rules) (e : CodeError) → error_model e ≡ memory → Resolves packages rules doc (Err e)
 ran_out doc packages rules e out = record {
   document = tt;
   held = tt;
   supplied = tt;
-  graph = ([], λ naming one. tt);
-  only = λ declared naming one composition described. out;
-  first = λ declared naming one. inl out;
-  layout = error_is_right packages rules (document_of doc) e (λ naming one composition described. out);
+  graph = ([], λ numbering one. tt);
+  only = λ declared numbering one composition described. out;
+  first = λ declared numbering one. inl out;
+  layout = error_is_right packages rules (document_of doc) e (λ numbering one composition described. out);
 }
 
 -- ---- in a resolution

@@ -1,5 +1,5 @@
 -- What resolving begins with: an empty graph, no names and no places.
-use Rattle.wac_resolution.proofs.Common.{◌≡◌, ◌∙◌, ℕ, [], refl, sym, ap, subst, Span, Named, Parts, empty, declared_count, Naming, start, placed_start, Bindings, places_of, Root, composition_of, numbers_of, composed, Agrees, Context, AllSupplied, packages_in, Externs, imported_in, exported_in, Stand, placed_in}
+use Rattle.wac_resolution.proofs.Common.{◌≡◌, ◌∙◌, ℕ, [], refl, sym, ap, subst, Span, Named, Parts, empty, declared_count, Numbering, start, placed_start, Bindings, places_of, Root, composition_of, numbers_of, composed, Agrees, Context, AllSupplied, packages_in, Externs, imported_in, exported_in, Stand, placed_in}
 use Rattle.wac_graph.specs.Means.{own_from}
 use Rattle.wac_graph.specs.declared.node.NodeId.{NodeId}
 use Rattle.wac_resolution_rules.specs.Find.{names_of}
@@ -32,14 +32,14 @@ none_declared : declared_count empty ≡ 0
 unfolding own_from
 none_declared = refl
 
-start_composed : (naming : Naming) (g : Parts) (root : Root) (x : Externs) → IsStart g root x → composed naming g root ≡ start
-start_composed naming g root x h =
-    ap (λ (p : Parts). composition_of naming p (numbers_of root.nodes)) h.graph
-    ∙ ap (λ (l : Bindings NodeId). composition_of naming empty (numbers_of l)) h.nodes
+start_composed : (numbering : Numbering) (g : Parts) (root : Root) (x : Externs) → IsStart g root x → composed numbering g root ≡ start
+start_composed numbering g root x h =
+    ap (λ (p : Parts). composition_of numbering p (numbers_of root.nodes)) h.graph
+    ∙ ap (λ (l : Bindings NodeId). composition_of numbering empty (numbers_of l)) h.nodes
     ∙ ap (λ (n : ℕ). record start { resources = n }) none_declared
 
-pub start_placed : (naming : Naming) (g : Parts) (root : Root) (x : Externs) → IsStart g root x → placed_in naming g root x ≡ placed_start start
-start_placed naming g root x h =
-    let composition = start_composed naming g root x h in
+pub start_placed : (numbering : Numbering) (g : Parts) (root : Root) (x : Externs) → IsStart g root x → placed_in numbering g root x ≡ placed_start start
+start_placed numbering g root x h =
+    let composition = start_composed numbering g root x h in
     let bound = ap (λ (l : Bindings NodeId). places_of l) h.nodes in
     λ i. record { composition = composition i; places = record { bound = bound i; imported = h.imported i; exported = h.exported i } }

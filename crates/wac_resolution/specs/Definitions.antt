@@ -12,4 +12,4 @@ use Rattle.wac_resolution_worlds.specs.Made.{KindMade}
 -- the kind is the one that a type statement declares
 abbrev pub KindDeclared : Context → Parts → Parts → Root → TypeStatement → ItemKind → Type 0
 KindDeclared context old new root s k = KindMade (packages_in context) old new
-    (λ naming m after. DeclaresKind (context_of naming context) (composed naming old root) s m after) k
+    (λ numbering m after. DeclaresKind (context_of numbering context) (composed numbering old root) s m after) k

@@ -6,16 +6,16 @@ use Rattle.wac_graph_types.specs.Scope.{Named}
 use Rattle.wac_ast.specs.declared.document.Document.{Document as CodeDocument}
 use Rattle.wac_graph.specs.declared.package_key.PackageKey.{PackageKey}
 use Rattle.wac_graph.specs.Graph.{Parts}
-use Rattle.wac_graph.specs.Origin.{Naming}
+use Rattle.wac_graph.specs.Origin.{Numbering}
 use Rattle.wac_graph.specs.Package.{HeldPackage, Key, key_of}
 use Rattle.wac_ast_grammar.specs.Tree.{Document}
 use Rattle.wac_resolution_errors.specs.Error as told_errors
 use Rattle.wac_resolution_errors.specs.declared.error.Error.{Error}
-use Rattle.wac_resolution_errors.specs.Told.{told}
+use Rattle.wac_resolution_errors.specs.ErrorModel.{error_model}
 use Rattle.wac_resolution_rules.specs.Composition.{Composition}
 use Rattle.wac_resolution_rules.specs.Given.{Given, Rules}
 use Rattle.wac_resolution_rules.specs.Mentions.{IsMentioned, Mention}
-use Rattle.wac_resolution_rules.specs.ResolvedDocument.{given_to, EveryNaming, GraphClause, OnlyClause, FirstClause}
+use Rattle.wac_resolution_rules.specs.ResolvedDocument.{given_to, EveryNumbering, GraphClause, OnlyClause, FirstClause}
 use Rattle.wac_resolution_state.specs.Nodes.{composition_of}
 use Rattle.wac_resolution_state.specs.Expands.{AllSupplied}
 
@@ -34,9 +34,9 @@ abbrev pub by_key : List (PackageKey × PackageParts) → List (Key × PackagePa
 by_key packages = map (λ e. (key_of e.0, e.1)) packages
 
 -- what is returned: the composition that the graph denotes, where these names are bound at root; or the error
-abbrev pub returned : Naming → Named ℕ → Result Resolved Error → Result Composition told_errors.Error
-returned naming declared (Ok r) = Ok (composition_of naming r.graph declared)
-returned naming declared (Err e) = Err (told e)
+abbrev pub returned : Numbering → Named ℕ → Result Resolved Error → Result Composition told_errors.Error
+returned numbering declared (Ok r) = Ok (composition_of numbering r.graph declared)
+returned numbering declared (Err e) = Err (error_model e)
 
 -- a call that resolves: what it is given, and what it returns
 pub record Call : Type 0 where
@@ -49,12 +49,12 @@ abbrev pub call : List (PackageKey × PackageParts) → Rules → Document → R
 call packages rules document result =
     record { packages = packages; rules = rules; document = document; result = result }
 
--- this clause holds of what the call returns, under every naming of origins that is one to one, where the document
+-- this clause holds of what the call returns, under every numbering of origins that is one to one, where the document
 -- binds these names
 abbrev pub Promised : (Given → Document → Result Composition told_errors.Error → Type 0) → Call → Named ℕ → Type 0
-Promised Clause c declared = EveryNaming
-    (λ naming. Clause (given_to naming (by_key c.packages) c.rules c.document) c.document
-    (returned naming declared c.result))
+Promised Clause c declared = EveryNumbering
+    (λ numbering. Clause (given_to numbering (by_key c.packages) c.rules c.document) c.document
+    (returned numbering declared c.result))
 
 -- the graph that is returned is described, with the names that the document binds
 abbrev pub IsDescribed : Call → Type 0

@@ -4,7 +4,7 @@ use Rattle.wac_graph_types.specs.Scope.{Named}
 use Rattle.wac_graph_types.specs.Steps.{Steps, Fails}
 use Rattle.wac_ast_grammar.specs.Tree.{PackagePath, Statement}
 use Rattle.wac_graph.specs.Graph.{Parts}
-use Rattle.wac_graph.specs.Origin.{Naming, IsOneToOne}
+use Rattle.wac_graph.specs.Origin.{Numbering, IsOneToOne}
 use Rattle.wac_resolution_errors.specs.Error.{Error}
 use Rattle.wac_resolution_rules.specs.BrokenStatements.{TargetBroken}
 use Rattle.wac_resolution_rules.specs.Composition.{start}
@@ -27,18 +27,18 @@ use Rattle.wac_resolution.specs.Sequences.{BreaksAfter}
 pub record MeetsIn (context : Context) (rules : Rules) (old new : Parts) (root : Root)
     (targets : Option PackagePath) : Type 0 where
   pub supplied : AllSupplied (packages_in context) new
-  pub kept : (naming : Naming) → composed naming new root ≡ composed naming old root
-  pub met : (naming : Naming) → IsOneToOne naming
-      → MeetsTarget (given_in naming context rules) (composed naming old root) targets
+  pub kept : (numbering : Numbering) → composed numbering new root ≡ composed numbering old root
+  pub met : (numbering : Numbering) → IsOneToOne numbering
+      → MeetsTarget (given_in numbering context rules) (composed numbering old root) targets
 
 -- the error says how the target is not met
 pub record MissesIn (context : Context) (rules : Rules) (g : Parts) (root : Root) (x : Externs)
     (targets : Option PackagePath) (e : Error) : Type 0 where
   pub target : PackagePath
   pub has : targets ≡ Some target
-  pub broken : (naming : Naming) → IsOneToOne naming
-      → TargetBroken (given_in naming context rules) (composed naming g root)
-      (placed_in naming g root x).places e target
+  pub broken : (numbering : Numbering) → IsOneToOne numbering
+      → TargetBroken (given_in numbering context rules) (composed numbering g root)
+      (placed_in numbering g root x).places e target
 
 -- the statements compose what the graph denotes with these names at root, the target is met, and the graph holds
 -- packages that were supplied
@@ -46,10 +46,10 @@ pub record Composed (context : Context) (rules : Rules) (statements : List State
     (g : Parts) : Type 0 where
   pub declared : Named ℕ
   pub supplied : AllSupplied (packages_in context) g
-  pub composes : (naming : Naming) → IsOneToOne naming
-      → Composes (given_in naming context rules) start statements (composition_of naming g declared)
-  pub met : (naming : Naming) → IsOneToOne naming
-      → MeetsTarget (given_in naming context rules) (composition_of naming g declared) targets
+  pub composes : (numbering : Numbering) → IsOneToOne numbering
+      → Composes (given_in numbering context rules) start statements (composition_of numbering g declared)
+  pub met : (numbering : Numbering) → IsOneToOne numbering
+      → MeetsTarget (given_in numbering context rules) (composition_of numbering g declared) targets
 
 -- all statements compose, and the target breaks the rule that the error names
 pub record TargetLast (s : Given) (statements : List Statement) (targets : Option PackagePath) (e : Error) : Type
@@ -63,6 +63,6 @@ pub record TargetLast (s : Given) (statements : List Statement) (targets : Optio
 -- a statement breaks the rule that the error names, after those before it composed; or the target does, after all of
 -- them
 abbrev pub Breaks : Context → Rules → List Statement → Option PackagePath → Error → Type 0
-Breaks context rules statements targets e = (naming : Naming) → IsOneToOne naming
-    → Fails (Leads (given_in naming context rules)) (BreaksAfter (given_in naming context rules) e) (placed_start start)
-    statements ⊎ TargetLast (given_in naming context rules) statements targets e
+Breaks context rules statements targets e = (numbering : Numbering) → IsOneToOne numbering
+    → Fails (Leads (given_in numbering context rules)) (BreaksAfter (given_in numbering context rules) e) (placed_start start)
+    statements ⊎ TargetLast (given_in numbering context rules) statements targets e

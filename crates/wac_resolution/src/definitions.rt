@@ -3,7 +3,7 @@ ghost use Rattle.std.specs.Prelude.{◌≡◌, OnOk, IfOk};
 ghost use Rattle.wac_ast_grammar.specs.Tree.{Statement};
 ghost use Rattle.wac_ast_base.specs.Names.{ident_of};
 ghost use Rattle.wac_ast.specs.Statements.{type_statement_of};
-ghost use Rattle.wac_graph.specs.Origin.{Naming};
+ghost use Rattle.wac_graph.specs.Origin.{Numbering};
 ghost use Rattle.wac_resolution_rules.specs.BrokenWorlds.{KindBroken};
 ghost use Rattle.wac_resolution_rules.specs.Errors.{ErrorSays};
 ghost use Rattle.wac_resolution_rules.specs.Given.{Rules};
@@ -44,8 +44,8 @@ fn declared_kind(
     requires supplied { AllSupplied (packages_in context.now) state.old.graph }
     ensures ok { IfOk result (λ k. KindDeclared context.now state.old.graph state.new.graph root.now
         (type_statement_of statement.now) k) }
-    ensures err { ErrorSays result (λ e. (naming : Naming)
-        → KindBroken (context_of naming context.now) (composed naming state.old.graph root.now)
+    ensures err { ErrorSays result (λ e. (numbering : Numbering)
+        → KindBroken (context_of numbering context.now) (composed numbering state.old.graph root.now)
         (type_statement_of statement.now) e) }
 {
     let outer = OuterScope {

@@ -9,7 +9,7 @@ ghost use Rattle.wac_ast_grammar.specs.Tree.{Document};
 ghost use Rattle.wac_printer_layout.specs.Reread.{IsReread};
 ghost use Rattle.wac_resolution_errors.specs.declared.error.Error.{Error};
 ghost use Rattle.wac_resolution_rules.specs.Given.{Rules};
-ghost use Rattle.wac_resolution_rules.specs.ResolvedDocument.{DescribeAlike, EveryNaming};
+ghost use Rattle.wac_resolution_rules.specs.ResolvedDocument.{DescribeAlike, EveryNumbering};
 ghost use Rattle.wac_resolution.specs.Layout.{DescribedClause, ReturnedAlike, SameBareTree};
 ghost use Rattle.wac_resolution.specs.Resolved.{Promised, Resolved, returned, call};
 
@@ -25,7 +25,8 @@ pub fn formatting_changes_no_graph()
         (declared other_declared : Named ℕ) (r s : Result Resolved Error) → SameBareTree document other
         → Promised DescribedClause (call packages rules document r) declared
         → Promised DescribedClause (call packages rules other s) other_declared
-        → EveryNaming (λ naming. ReturnedAlike (returned naming declared r) (returned naming other_declared s)) }
+        → EveryNumbering (λ numbering. ReturnedAlike (returned numbering declared r)
+        (returned numbering other_declared s)) }
 {
     trees_stand_in_their_text();
 }

@@ -1,5 +1,5 @@
 pub mod Error
-pub mod Told
+pub mod ErrorModel
 pub mod Places
 pub mod Messages
 pub mod Shapes

@@ -4,7 +4,7 @@ use Rattle.wac_resolution_errors.specs.declared.message.Message.{Message}
 use Rattle.wac_resolution_errors.specs.declared.message.Message.TheVariants as messages
 use Rattle.wac_resolution_errors.specs.Messages.{operation_word}
 use Rattle.wac_resolution_errors.specs.Shapes.{quoted, pair, kinded, kinded_within, part_of_function, missing_export, world_item, include_conflict, export_conflict, extern_name, invalid_name, use_conflict, target_mismatch}
-use Rattle.wac_resolution_errors.specs.Told.{operation_of}
+use Rattle.wac_resolution_errors.specs.ErrorModel.{operation_of}
 
 abbrev pub shown : Message → List ℕ
 shown (messages.Plain text) = text.now

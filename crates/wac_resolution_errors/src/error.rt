@@ -5,7 +5,7 @@ ghost use Rattle.wac_resolution_errors.specs.declared.error.Error.TheVariants.{M
 ghost use Rattle.wac_resolution_errors.specs.Messages.{text_of};
 ghost use Rattle.wac_resolution_errors.specs.Places.{span_of};
 ghost use Rattle.wac_resolution_errors.specs.Shown.{shown};
-ghost use Rattle.wac_resolution_errors.specs.Told.{told};
+ghost use Rattle.wac_resolution_errors.specs.ErrorModel.{error_model};
 
 use crate::message::Message;
 use crate::operation::InstanceOperation;
@@ -445,7 +445,7 @@ pub type ResolutionResult<T> = Result<T, Error>;
 impl fmt::Display for Error {
     ghost use Rattle.std.specs.Prelude.{Some};
 
-    ghost output = { λ e. Some (text_of (told e)) };
+    ghost output = { λ e. Some (text_of (error_model e)) };
 
     fn fmt<W: fmt::Write>(&self, f: &mut fmt::Formatter<W>) -> fmt::Result {
         self.message().fmt(f)
@@ -456,7 +456,7 @@ impl Error {
     /// The bytes of the source at which the error lies: what breaks the rule. There is none where memory ran out, and
     /// where an instance imports something that the target does not allow, which is written nowhere.
     pub fn span(&self) -> Option<SourceSpan>
-        ensures { result ≡ span_of (told self.now) }
+        ensures { result ≡ span_of (error_model self.now) }
     {
         match self {
             Error::UndefinedName { span, .. }
@@ -510,7 +510,7 @@ impl Error {
 
     /// The message, as names and the words around them.
     fn message(&self) -> Message<'_>
-        ensures { shown result ≡ text_of (told self.now) }
+        ensures { shown result ≡ text_of (error_model self.now) }
     {
         match self {
             Error::UndefinedName { name, .. } => Message::Quoted("undefined name ", name, ""),

@@ -14,7 +14,7 @@ pub enum InstanceOperation {
 impl fmt::Display for InstanceOperation {
     ghost use Rattle.std.specs.Prelude.{Some};
     ghost use Rattle.wac_resolution_errors.specs.Messages.{operation_word};
-    ghost use Rattle.wac_resolution_errors.specs.Told.{operation_of};
+    ghost use Rattle.wac_resolution_errors.specs.ErrorModel.{operation_of};
 
     ghost output = { λ operation. Some (operation_word (operation_of operation)) };
 

@@ -17,9 +17,9 @@ pub use Rattle.wac_ast_grammar.specs.Tree.{Arguments, Expr, Ident, Instantiation
 pub use Rattle.wac_graph.proofs.Lists.{all_implies, all_more, get_kept, get_last}
 pub use Rattle.wac_graph.specs.Graph.{Parts, arguments_of, export_kind, import_kind, parameter_kind, with_argument, with_instantiation}
 pub use Rattle.wac_graph.specs.Means.{EntriesMean, OriginsApart, declared_count, entry_means, means, origin_at}
-pub use Rattle.wac_graph.specs.Origin.{IsOneToOne, Naming}
+pub use Rattle.wac_graph.specs.Origin.{IsOneToOne, Numbering}
 pub use Rattle.wac_graph.specs.Package.{HeldPackage, IsHeld, Key}
-pub use Rattle.wac_graph.specs.Packages.{Contents, contents_in, handed, package_of}
+pub use Rattle.wac_graph.specs.Packages.{Contents, contents_in, supplied_packages, package_of}
 pub use Rattle.wac_graph.specs.declared.node.NodeId.{NodeId}
 pub use Rattle.wac_graph_types.proofs.Found.{found_named, world_imports_mean, world_imports_named}
 pub use Rattle.wac_graph_types.proofs.Rows.{none_within}
@@ -39,7 +39,7 @@ pub use Rattle.wac_graph_types.specs.declared.rules.Reason.{Reason}
 pub use Rattle.wac_lexer.specs.Span.{Span}
 pub use Rattle.wac_resolution_errors.proofs.Reports.{if_reports, reports}
 pub use Rattle.wac_resolution_errors.specs.Error.{Error, Reports, duplicate_instantiation_arg, missing_instantiation_arg, spread_instantiation_no_match}
-pub use Rattle.wac_resolution_errors.specs.Told.{told}
+pub use Rattle.wac_resolution_errors.specs.ErrorModel.{error_model}
 pub use Rattle.wac_resolution_state.proofs.Composed.{composition_expands, composition_instance, grows_more, grows_none, grows_on, instance_given, instance_with, next_is, sound_stands, still_stand, still_there}
 pub use Rattle.wac_resolution_state.proofs.Instances.{export_meant, is_instance, no_instance}
 pub use Rattle.wac_resolution_state.proofs.Roots.{agrees_expands, agrees_nodes, fresh_read, kind_means, node_is, number_fresh}

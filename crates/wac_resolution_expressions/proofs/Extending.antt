@@ -1,5 +1,5 @@
 -- What a graph keeps as expressions are resolved.
-use Rattle.wac_resolution_expressions.proofs.Common.{◌≡◌, ◌∙◌, ◌<◌, ℕ, zero, suc, List, [], ◌∷◌, Some, refl, sym, ap, subst, length, slice_get, AllByRecursion, Entry, WorldId, Meaning, Named, entry_of, imports_of, Names, NodeId, Parts, means, declared_count, Naming, Key, HeldPackage, IsHeld, contents_in, handed, package_of, all_implies, Root, GrowsNodes, composition_of, kind_in, NodesStand, Agrees, composition_expands, still_stand, still_there, agrees_expands, agrees_nodes, Expands, AllSupplied, IsSuppliedAs}
+use Rattle.wac_resolution_expressions.proofs.Common.{◌≡◌, ◌∙◌, ◌<◌, ℕ, zero, suc, List, [], ◌∷◌, Some, refl, sym, ap, subst, length, slice_get, AllByRecursion, Entry, WorldId, Meaning, Named, entry_of, imports_of, Names, NodeId, Parts, means, declared_count, Numbering, Key, HeldPackage, IsHeld, contents_in, supplied_packages, package_of, all_implies, Root, GrowsNodes, composition_of, kind_in, NodesStand, Agrees, composition_expands, still_stand, still_there, agrees_expands, agrees_nodes, Expands, AllSupplied, IsSuppliedAs}
 use Rattle.wac_graph_types.specs.declared.kind.ItemKind.TheVariants as kinds
 use Rattle.wac_graph_types.specs.Package.{PackageParts}
 use Rattle.wac_graph.specs.Node.{Node as GraphNode}
@@ -7,14 +7,14 @@ use Rattle.wac_resolution_expressions.specs.Spreads.{GivenThere, imports_at}
 use Rattle.wac_resolution_expressions.specs.Growth.{Extends}
 
 pub extends_self : (packages : List (Key × PackageParts)) (g : Parts) → NodesStand g → AllSupplied packages g → Extends packages g g
-extends_self packages g stand h = record { same = refl; held = λ i p is. is; named = λ k is. is; kinds = λ naming k is. refl; nodes = λ n k is. is; stand = stand; supplied = h; count = refl }
+extends_self packages g stand h = record { same = refl; held = λ i p is. is; named = λ k is. is; kinds = λ numbering k is. refl; nodes = λ n k is. is; stand = stand; supplied = h; count = refl }
 
 pub extends_on : (packages : List (Key × PackageParts)) (a b c : Parts) → Extends packages a b → Extends packages b c → Extends packages a c
 extends_on packages a b c p q = record {
   same = q.same ∙ ap (λ (g : Parts). record g { types = c.types; packages = c.packages; nodes = c.nodes }) p.same;
   held = λ i h is. q.held i h (p.held i h is);
   named = λ k is. q.named k (p.named k is);
-  kinds = λ naming k is. q.kinds naming k (p.named k is) ∙ p.kinds naming k is;
+  kinds = λ numbering k is. q.kinds numbering k (p.named k is) ∙ p.kinds numbering k is;
   nodes = λ n k is. q.nodes n k (p.nodes n k is);
   stand = q.stand;
   supplied = q.supplied;
@@ -36,15 +36,15 @@ expands_extends packages old new e stand h count =
     }
 
 -- the composition stays the same
-pub composition_same : (old new : Parts) → Expands old new → NodesStand old → declared_count new ≡ declared_count old → (naming : Naming) (declared : Named ℕ) → composition_of naming new declared ≡ composition_of naming old declared
-composition_same old new e stand count naming declared =
-    composition_expands old new declared naming e.same e.held (e.kinds naming) stand ∙ ap (λ (n : ℕ). record (composition_of naming old declared) { resources = n }) count
+pub composition_same : (old new : Parts) → Expands old new → NodesStand old → declared_count new ≡ declared_count old → (numbering : Numbering) (declared : Named ℕ) → composition_of numbering new declared ≡ composition_of numbering old declared
+composition_same old new e stand count numbering declared =
+    composition_expands old new declared numbering e.same e.held (e.kinds numbering) stand ∙ ap (λ (n : ℕ). record (composition_of numbering old declared) { resources = n }) count
 
 -- a package is held as it was supplied, in a graph with other nodes
-handed_nodes : (packages : List (Key × PackageParts)) (old new : Parts) → new ≡ record old { nodes = new.nodes } → (p : HeldPackage) → IsSuppliedAs packages old p → IsSuppliedAs packages new p
-handed_nodes packages old new same p h = record {
+supplied_nodes : (packages : List (Key × PackageParts)) (old new : Parts) → new ≡ record old { nodes = new.nodes } → (p : HeldPackage) → IsSuppliedAs packages old p → IsSuppliedAs packages new p
+supplied_nodes packages old new same p h = record {
   there = subst (λ (es : List Entry). IsHeld es p) (sym (ap (λ (g : Parts). g.types) same)) h.there;
-  contents = λ naming. h.contents naming ∙ ap (λ (g : Parts). Some (contents_in naming g p)) (sym same);
+  contents = λ numbering. h.contents numbering ∙ ap (λ (g : Parts). Some (contents_in numbering g p)) (sym same);
 }
 
 -- more nodes
@@ -55,10 +55,10 @@ nodes_extend packages old new g h =
       same = g.same ∙ ap (λ (es : List Entry). record old { types = es; nodes = new.nodes }) (sym types) ∙ ap (λ (ps : List HeldPackage). record old { types = new.types; packages = ps; nodes = new.nodes }) (sym held);
       held = λ i p is. ap (λ (ps : List HeldPackage). slice_get ps i) held ∙ is;
       named = λ k is. subst (λ (es : List Entry). Names es k) (sym types) is;
-      kinds = λ naming k is. ap (λ (p : Parts). means naming p k) g.same;
+      kinds = λ numbering k is. ap (λ (p : Parts). means numbering p k) g.same;
       nodes = g.kinds;
       stand = g.stand;
-      supplied = subst (AllByRecursion (IsSuppliedAs packages new)) (sym held) (all_implies (IsSuppliedAs packages old) (IsSuppliedAs packages new) (handed_nodes packages old new g.same) old.packages h);
+      supplied = subst (AllByRecursion (IsSuppliedAs packages new)) (sym held) (all_implies (IsSuppliedAs packages old) (IsSuppliedAs packages new) (supplied_nodes packages old new g.same) old.packages h);
       count = ap declared_count g.same;
     }
 
@@ -68,8 +68,8 @@ each_at {X} P (y ∷ xs) zero x h is = (let same : y ≡ x = cc in subst P same 
 each_at {X} P (y ∷ xs) (suc i) x h is = each_at P xs i x h.1 is
 
 -- what a package that a graph holds was supplied with
-pub held_contents : (packages : List (Key × PackageParts)) (g : Parts) (i : ℕ) (p : HeldPackage) → AllSupplied packages g → slice_get g.packages i ≡ Some p → (naming : Naming) → package_of p.key (handed naming packages) ≡ Some (contents_in naming g p)
-held_contents packages g i p h is naming = (each_at (IsSuppliedAs packages g) g.packages i p h is).contents naming
+pub held_contents : (packages : List (Key × PackageParts)) (g : Parts) (i : ℕ) (p : HeldPackage) → AllSupplied packages g → slice_get g.packages i ≡ Some p → (numbering : Numbering) → package_of p.key (supplied_packages numbering packages) ≡ Some (contents_in numbering g p)
+held_contents packages g i p h is numbering = (each_at (IsSuppliedAs packages g) g.packages i p h is).contents numbering
 
 -- ---- what is kept
 
@@ -98,12 +98,12 @@ module _ (packages : List (Key × PackageParts)) (old new : Parts) (e : Extends 
   world_extended w h = e.named (kinds.Component w) h
 
   -- what a world imports
-  pub imports_extended : (w : WorldId) → Names old.types (kinds.Component w) → (naming : Naming) → imports_at naming new w ≡ imports_at naming old w
-  imports_extended w h naming = ap (λ (m : Meaning). imports_of (entry_of m)) (e.kinds naming (kinds.Component w) h)
+  pub imports_extended : (w : WorldId) → Names old.types (kinds.Component w) → (numbering : Numbering) → imports_at numbering new w ≡ imports_at numbering old w
+  imports_extended w h numbering = ap (λ (m : Meaning). imports_of (entry_of m)) (e.kinds numbering (kinds.Component w) h)
 
   -- what a package holds
-  pub contents_extended : AllSupplied packages old → (i : ℕ) (p : HeldPackage) → slice_get old.packages i ≡ Some p → (naming : Naming) → contents_in naming new p ≡ contents_in naming old p
-  contents_extended h i p is naming =
-      let before : package_of p.key (handed naming packages) ≡ Some (contents_in naming old p) = held_contents packages old i p h is naming in
-      let after : package_of p.key (handed naming packages) ≡ Some (contents_in naming new p) = held_contents packages new i p e.supplied (e.held i p is) naming in
+  pub contents_extended : AllSupplied packages old → (i : ℕ) (p : HeldPackage) → slice_get old.packages i ≡ Some p → (numbering : Numbering) → contents_in numbering new p ≡ contents_in numbering old p
+  contents_extended h i p is numbering =
+      let before : package_of p.key (supplied_packages numbering packages) ≡ Some (contents_in numbering old p) = held_contents packages old i p h is numbering in
+      let after : package_of p.key (supplied_packages numbering packages) ≡ Some (contents_in numbering new p) = held_contents packages new i p e.supplied (e.held i p is) numbering in
       cc

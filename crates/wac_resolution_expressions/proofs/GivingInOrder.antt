@@ -18,11 +18,11 @@ module _ (s : Given) (imports : Named Meaning) where
 
   first_all : (xs : List InstantiationArgument) (old new : Giving) → GivesFirst old xs [] new → Gives s imports old (arguments_from xs) new
   first_all [] old new p = p
-  first_all (x ∷ xs) old new p = (p.0, subst (λ (l : List InstantiationArgument). GivesOne s imports (arguments_from l) old x p.0) (nothing_behind xs) p.1, first_all xs p.0 new p.2)
+  first_all (x ∷ xs) old new p = (p.0, subst (λ (l : List InstantiationArgument). GivesOne s imports (arguments_from l) old x p.0) (nothing_after xs) p.1, first_all xs p.0 new p.2)
     where
-      nothing_behind : (xs : List InstantiationArgument) → xs ++ [] ≡ xs
-      nothing_behind [] = refl
-      nothing_behind (z ∷ xs) = ap (λ (l : List InstantiationArgument). z ∷ l) (nothing_behind xs)
+      nothing_after : (xs : List InstantiationArgument) → xs ++ [] ≡ xs
+      nothing_after [] = refl
+      nothing_after (z ∷ xs) = ap (λ (l : List InstantiationArgument). z ∷ l) (nothing_after xs)
 
   first_breaks : (e : Error) (xs rest : List InstantiationArgument) (x : InstantiationArgument) (old mid : Giving) → GivesFirst old xs (x ∷ rest) mid → ArgumentBroken s imports (arguments_from rest) mid e x → ArgumentsBroken s imports old e (arguments_from (xs ++ x ∷ rest))
   first_breaks e [] rest x old mid p b = inl (subst (λ (g : Giving). ArgumentBroken s imports (arguments_from rest) g e x) p b)
@@ -30,18 +30,18 @@ module _ (s : Given) (imports : Named Meaning) where
 
   -- the same in a loop
   module _ (ys : List InstantiationArgument) (i : ℕ) (x : InstantiationArgument) (within : i < length ys) (is : get_or ys i x ≡ x) where
-    behind : drop i ys ≡ x ∷ drop (suc i) ys
-    behind = drop-cons ys i x within ∙ ap (λ (y : InstantiationArgument). y ∷ drop (suc i) ys) is
+    after : drop i ys ≡ x ∷ drop (suc i) ys
+    after = drop-cons ys i x within ∙ ap (λ (y : InstantiationArgument). y ∷ drop (suc i) ys) is
 
     pub gives_next : (old mid new : Giving) → GivesFirst old (take i ys) (drop i ys) mid → GivesOne s imports (arguments_from (drop (suc i) ys)) mid x new → GivesFirst old (take (i + 1) ys) (drop (suc i) ys) new
     gives_next old mid new p q =
         subst (λ (l : List InstantiationArgument). GivesFirst old l (drop (suc i) ys) new) (sym (take_more ys i x within ∙ ap (λ (y : InstantiationArgument). take i ys ++ y ∷ []) is))
-        (first_more (take i ys) (drop (suc i) ys) x old mid new (subst (λ (l : List InstantiationArgument). GivesFirst old (take i ys) l mid) behind p) q)
+        (first_more (take i ys) (drop (suc i) ys) x old mid new (subst (λ (l : List InstantiationArgument). GivesFirst old (take i ys) l mid) after p) q)
 
     pub gives_breaks : (e : Error) (old mid : Giving) → GivesFirst old (take i ys) (drop i ys) mid → ArgumentBroken s imports (arguments_from (drop (suc i) ys)) mid e x → ArgumentsBroken s imports old e (arguments_from ys)
     gives_breaks e old mid p b =
-        subst (λ (l : List InstantiationArgument). ArgumentsBroken s imports old e (arguments_from l)) (ap (λ (l : List InstantiationArgument). take i ys ++ l) (sym behind) ∙ take-append-drop i ys)
-        (first_breaks e (take i ys) (drop (suc i) ys) x old mid (subst (λ (l : List InstantiationArgument). GivesFirst old (take i ys) l mid) behind p) b)
+        subst (λ (l : List InstantiationArgument). ArgumentsBroken s imports old e (arguments_from l)) (ap (λ (l : List InstantiationArgument). take i ys ++ l) (sym after) ∙ take-append-drop i ys)
+        (first_breaks e (take i ys) (drop (suc i) ys) x old mid (subst (λ (l : List InstantiationArgument). GivesFirst old (take i ys) l mid) after p) b)
 
   pub gives_end : (ys : List InstantiationArgument) (i : ℕ) (old new : Giving) → length ys ≤ i → GivesFirst old (take i ys) (drop i ys) new → Gives s imports old (arguments_from ys) new
   gives_end ys i old new past p =

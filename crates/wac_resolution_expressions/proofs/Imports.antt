@@ -1,13 +1,13 @@
 -- Imports of a world as they are meant, and those that are left out.
-use Rattle.wac_resolution_expressions.proofs.Common.{◌≡◌, ◌∙◌, ℕ, List, [], ◌∷◌, Option, Some, None, Bool, true, false, cond, refl, sym, ap, is_some, is_none, length, ◌<◌, slice_get, option_map, option_and_then, unwrap_or, bytes_eq, ItemKind, WorldId, Meaning, of_kind, world_imports, Named, look_up, imports_of, items_mean, Names, world_imports_mean, items_found, NodeId, Parts, entry_means, origin_at, EntriesMean, Naming, Node, InstantiationArgumentName, slice_get-map, none_within, node_of, composition_of, name_meant, instance_id, own_name, if_imported, name_inferred, left_out, find_name, node_at}
+use Rattle.wac_resolution_expressions.proofs.Common.{◌≡◌, ◌∙◌, ℕ, List, [], ◌∷◌, Option, Some, None, Bool, true, false, cond, refl, sym, ap, is_some, is_none, length, ◌<◌, slice_get, option_map, option_and_then, unwrap_or, bytes_eq, ItemKind, WorldId, Meaning, of_kind, world_imports, Named, look_up, imports_of, items_mean, Names, world_imports_mean, items_found, NodeId, Parts, entry_means, origin_at, EntriesMean, Numbering, Node, InstantiationArgumentName, slice_get-map, none_within, node_of, composition_of, name_meant, instance_id, own_name, if_imported, name_inferred, left_out, find_name, node_at}
 use Rattle.std.specs.Option.{option_or}
 use Rattle.wac_graph_types.specs.declared.kind.ItemKind.TheVariants as kinds
 use Rattle.wac_graph.specs.Node.{Node as GraphNode}
 use Rattle.wac_resolution_expressions.specs.Arguments.{given_nodes, first_name}
 
 -- what a world of the graph imports
-pub imports_meant : (g : Parts) (w : WorldId) → EntriesMean g → Names g.types (kinds.Component w) → (naming : Naming) → imports_of (entry_means naming g w.0) ≡ items_mean (entry_means naming g) (world_imports g.types w.0)
-imports_meant g w law named naming = world_imports_mean (λ n. naming (origin_at g n)) g.types (entry_means naming g) (law naming) w.0 named.1
+pub imports_meant : (g : Parts) (w : WorldId) → EntriesMean g → Names g.types (kinds.Component w) → (numbering : Numbering) → imports_of (entry_means numbering g w.0) ≡ items_mean (entry_means numbering g) (world_imports g.types w.0)
+imports_meant g w law named numbering = world_imports_mean (λ n. numbering (origin_at g n)) g.types (entry_means numbering g) (law numbering) w.0 named.1
 
 -- ---- names that are imported
 
@@ -32,27 +32,27 @@ inferred_of imports name text o n id own at is_id is_own is =
     ∙ ap (λ (x : Option (List ℕ)). Some (unwrap_or (option_or (if_imported imports id) (if_imported imports x)) (find_name name imports))) same_own
     ∙ ap Some (sym is)
 
-node_of_number : (naming : Naming) (g : Parts) (declared : Named ℕ) (node : ℕ) → node < length g.nodes → (n : Node) × (node_at (composition_of naming g declared) node ≡ Some n)
-node_of_number naming g declared node there = go (slice_get g.nodes node) refl
+node_of_number : (numbering : Numbering) (g : Parts) (declared : Named ℕ) (node : ℕ) → node < length g.nodes → (n : Node) × (node_at (composition_of numbering g declared) node ≡ Some n)
+node_of_number numbering g declared node there = go (slice_get g.nodes node) refl
   where
-    go : (o : Option GraphNode) → slice_get g.nodes node ≡ o → (n : Node) × (node_at (composition_of naming g declared) node ≡ Some n)
+    go : (o : Option GraphNode) → slice_get g.nodes node ≡ o → (n : Node) × (node_at (composition_of numbering g declared) node ≡ Some n)
     go None at = absurd (none_within g.nodes node at there)
-    go (Some n) at = (node_of naming g n, slice_get-map (node_of naming g) g.nodes node ∙ ap (option_map (node_of naming g)) at)
+    go (Some n) at = (node_of numbering g n, slice_get-map (node_of numbering g) g.nodes node ∙ ap (option_map (node_of numbering g)) at)
 
 pub inferred_here : (g : Parts) (w : WorldId) (node : ℕ) (name text : List ℕ) (id own : Option (List ℕ)) (all : Named ItemKind) → EntriesMean g → Names g.types (kinds.Component w) → node < length g.nodes → all ≡ world_imports g.types w.0
-    → ((naming : Naming) (declared : Named ℕ) → option_and_then instance_id (node_at (composition_of naming g declared) node) ≡ id) → ((naming : Naming) (declared : Named ℕ) → option_and_then own_name (node_at (composition_of naming g declared) node) ≡ own)
+    → ((numbering : Numbering) (declared : Named ℕ) → option_and_then instance_id (node_at (composition_of numbering g declared) node) ≡ id) → ((numbering : Numbering) (declared : Named ℕ) → option_and_then own_name (node_at (composition_of numbering g declared) node) ≡ own)
     → ((f : ℕ → Meaning) → text ≡ unwrap_or (option_or (if_imported (items_mean f all) id) (if_imported (items_mean f all) own)) (find_name name (items_mean f all)))
-    → (naming : Naming) (declared : Named ℕ) → option_map (name_inferred (imports_of (entry_means naming g w.0)) name) (node_at (composition_of naming g declared) node) ≡ Some text
-inferred_here g w node name text id own all law named there is is_id is_own said naming declared =
-    let n = node_of_number naming g declared node there in
-    let same : imports_of (entry_means naming g w.0) ≡ items_mean (entry_means naming g) all = imports_meant g w law named naming ∙ ap (items_mean (entry_means naming g)) (sym is) in
-    ap (λ (l : Named Meaning). option_map (name_inferred l name) (node_at (composition_of naming g declared) node)) same
-    ∙ inferred_of (items_mean (entry_means naming g) all) name text (node_at (composition_of naming g declared) node) n.0 id own n.1 (is_id naming declared) (is_own naming declared) (said (entry_means naming g))
+    → (numbering : Numbering) (declared : Named ℕ) → option_map (name_inferred (imports_of (entry_means numbering g w.0)) name) (node_at (composition_of numbering g declared) node) ≡ Some text
+inferred_here g w node name text id own all law named there is is_id is_own said numbering declared =
+    let n = node_of_number numbering g declared node there in
+    let same : imports_of (entry_means numbering g w.0) ≡ items_mean (entry_means numbering g) all = imports_meant g w law named numbering ∙ ap (items_mean (entry_means numbering g)) (sym is) in
+    ap (λ (l : Named Meaning). option_map (name_inferred l name) (node_at (composition_of numbering g declared) node)) same
+    ∙ inferred_of (items_mean (entry_means numbering g) all) name text (node_at (composition_of numbering g declared) node) n.0 id own n.1 (is_id numbering declared) (is_own numbering declared) (said (entry_means numbering g))
 
 pub written_here : (g : Parts) (w : WorldId) (x : InstantiationArgumentName) (text : List ℕ) (all : Named ItemKind) → EntriesMean g → Names g.types (kinds.Component w) → all ≡ world_imports g.types w.0
-    → ((f : ℕ → Meaning) → text ≡ name_meant x (items_mean f all)) → (naming : Naming) → text ≡ name_meant x (imports_of (entry_means naming g w.0))
-written_here g w x text all law named is said naming =
-    said (entry_means naming g) ∙ ap (name_meant x) (sym (imports_meant g w law named naming ∙ ap (items_mean (entry_means naming g)) (sym is)))
+    → ((f : ℕ → Meaning) → text ≡ name_meant x (items_mean f all)) → (numbering : Numbering) → text ≡ name_meant x (imports_of (entry_means numbering g w.0))
+written_here g w x text all law named is said numbering =
+    said (entry_means numbering g) ∙ ap (name_meant x) (sym (imports_meant g w law named numbering ∙ ap (items_mean (entry_means numbering g)) (sym is)))
 
 -- where nothing is imported, the name stays
 none_imported : (o : Option (List ℕ)) → if_imported [] o ≡ None
@@ -63,11 +63,11 @@ pub inferred_none : (name : List ℕ) (n : Node) → name_inferred [] name n ≡
 inferred_none name n = ap (λ (x : Option (List ℕ)). unwrap_or (option_or x (if_imported [] (own_name n))) name) (none_imported (instance_id n)) ∙ ap (λ (x : Option (List ℕ)). unwrap_or x name) (none_imported (own_name n))
 
 pub inferred_nowhere : (g : Parts) (w : WorldId) (node : ℕ) (name : List ℕ) → EntriesMean g → Names g.types (kinds.Component w) → node < length g.nodes → [] ≡ world_imports g.types w.0
-    → (naming : Naming) (declared : Named ℕ) → option_map (name_inferred (imports_of (entry_means naming g w.0)) name) (node_at (composition_of naming g declared) node) ≡ Some name
-inferred_nowhere g w node name law named there is naming declared =
-    let n = node_of_number naming g declared node there in
-    let same : imports_of (entry_means naming g w.0) ≡ [] = imports_meant g w law named naming ∙ ap (items_mean (entry_means naming g)) (sym is) in
-    ap (λ (l : Named Meaning). option_map (name_inferred l name) (node_at (composition_of naming g declared) node)) same
+    → (numbering : Numbering) (declared : Named ℕ) → option_map (name_inferred (imports_of (entry_means numbering g w.0)) name) (node_at (composition_of numbering g declared) node) ≡ Some name
+inferred_nowhere g w node name law named there is numbering declared =
+    let n = node_of_number numbering g declared node there in
+    let same : imports_of (entry_means numbering g w.0) ≡ [] = imports_meant g w law named numbering ∙ ap (items_mean (entry_means numbering g)) (sym is) in
+    ap (λ (l : Named Meaning). option_map (name_inferred l name) (node_at (composition_of numbering g declared) node)) same
     ∙ ap (option_map (name_inferred [] name)) n.1 ∙ ap Some (inferred_none name n.0)
 
 -- ---- left out

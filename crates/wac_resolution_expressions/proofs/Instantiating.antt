@@ -1,5 +1,5 @@
 -- The package that is instantiated under a name.
-use Rattle.wac_resolution_expressions.proofs.Common.{◌≡◌, ◌∙◌, Some, None, Bool, false, cond, refl, sym, ap, subst, slice_get, option_map, bytes_eq, PackageName, Parts, Key, HeldPackage, IsHeld, contents_in, handed, package_of, key_named, NodesStand, Context, Loads, packages_in}
+use Rattle.wac_resolution_expressions.proofs.Common.{◌≡◌, ◌∙◌, Some, None, Bool, false, cond, refl, sym, ap, subst, slice_get, option_map, bytes_eq, PackageName, Parts, Key, HeldPackage, IsHeld, contents_in, supplied_packages, package_of, key_named, NodesStand, Context, Loads, packages_in}
 use Rattle.wac_graph.specs.declared.node.PackageId.{PackageId}
 use Rattle.wac_resolution_expressions.specs.Loaded.{IsInstantiable}
 use Rattle.wac_resolution_expressions.proofs.Extending.{expands_extends, composition_same, held_contents}
@@ -12,9 +12,9 @@ instantiable_is s old new x id held other stand l found there = record {
   held = held;
   loaded = record { found = found; world = refl; named = there.of_world };
   key = key;
-  is = λ naming rules.
-      ap (λ (b : Bool). cond b None (package_of (key_named x) (handed naming (packages_in s)))) other
-      ∙ subst (λ (k : Key). package_of k (handed naming (packages_in s)) ≡ Some (contents_in naming new held)) key (held_contents (packages_in s) new id.0 held l.supplied found naming);
+  is = λ numbering rules.
+      ap (λ (b : Bool). cond b None (package_of (key_named x) (supplied_packages numbering (packages_in s)))) other
+      ∙ subst (λ (k : Key). package_of k (supplied_packages numbering (packages_in s)) ≡ Some (contents_in numbering new held)) key (held_contents (packages_in s) new id.0 held l.supplied found numbering);
 }
   where
     key : held.key ≡ key_named x

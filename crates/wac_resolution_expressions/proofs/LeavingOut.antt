@@ -1,5 +1,5 @@
 -- Imports that are left out, unless there is a fill.
-use Rattle.wac_resolution_expressions.proofs.Common.{◌≡◌, ◌∙◌, ◌+◌, ◌<◌, ◌||◌, ℕ, suc, List, [], ◌∷◌, ◌++◌, Option, Some, None, Bool, true, false, inl, inr, refl, sym, ap, subst, map, take, drop, length, get_or, length-map, get_or-map, take_more, take-append-drop, drop-cons, ItemKind, WorldId, Meaning, world_imports, Named, items_mean, Names, PackageName, Arguments, arguments_from, argument_of, Parts, entry_means, EntriesMean, Naming, Error, missing_instantiation_arg, is_fill, has_fill, left_out, IsComplete}
+use Rattle.wac_resolution_expressions.proofs.Common.{◌≡◌, ◌∙◌, ◌+◌, ◌<◌, ◌||◌, ℕ, suc, List, [], ◌∷◌, ◌++◌, Option, Some, None, Bool, true, false, inl, inr, refl, sym, ap, subst, map, take, drop, length, get_or, length-map, get_or-map, take_more, take-append-drop, drop-cons, ItemKind, WorldId, Meaning, world_imports, Named, items_mean, Names, PackageName, Arguments, arguments_from, argument_of, Parts, entry_means, EntriesMean, Numbering, Error, missing_instantiation_arg, is_fill, has_fill, left_out, IsComplete}
 use Rattle.wac_graph_types.specs.declared.kind.ItemKind.TheVariants as kinds
 use Rattle.wac_ast_grammar.specs.Tree.{InstantiationArgument}
 use Rattle.wac_ast_statements.specs.declared.expr.InstantiationArgument.{InstantiationArgument as CodeArgument}
@@ -47,9 +47,9 @@ module _ (ys : List CodeArgument) (i : ℕ) (y : CodeArgument) (within : i < len
 -- ---- left out
 
 pub left_here : (g : Parts) (w : WorldId) (given : Named ℕ) (all : Named ItemKind) (r : Option (List ℕ)) → EntriesMean g → Names g.types (kinds.Component w) → all ≡ world_imports g.types w.0
-    → ((f : ℕ → Meaning) → r ≡ first_name (left_out (items_mean f all) given)) → (naming : Naming) → r ≡ first_name (left_out (imports_at naming g w) given)
-left_here g w given all r law named is said naming =
-    said (entry_means naming g) ∙ ap (λ (l : Named Meaning). first_name (left_out l given)) (sym (imports_meant g w law named naming ∙ ap (items_mean (entry_means naming g)) (sym is)))
+    → ((f : ℕ → Meaning) → r ≡ first_name (left_out (items_mean f all) given)) → (numbering : Numbering) → r ≡ first_name (left_out (imports_at numbering g w) given)
+left_here g w given all r law named is said numbering =
+    said (entry_means numbering g) ∙ ap (λ (l : Named Meaning). first_name (left_out l given)) (sym (imports_meant g w law named numbering ∙ ap (items_mean (entry_means numbering g)) (sym is)))
 
 none_first : (l : Named Meaning) → None ≡ first_name l → l ≡ []
 none_first [] is = refl
@@ -59,17 +59,17 @@ some_first : (l : Named Meaning) (name : List ℕ) → Some name ≡ first_name 
 some_first [] name is = absurd (cc)
 some_first (x ∷ l) name is = (x, l, refl, cc)
 
-pub complete_filled : (g : Parts) (w : WorldId) (given : Named ℕ) (b : Bool) → b ≡ true → (naming : Naming) → IsComplete (imports_at naming g w) b given
-complete_filled g w given b is naming = inl is
+pub complete_filled : (g : Parts) (w : WorldId) (given : Named ℕ) (b : Bool) → b ≡ true → (numbering : Numbering) → IsComplete (imports_at numbering g w) b given
+complete_filled g w given b is numbering = inl is
 
-pub complete_given : (g : Parts) (w : WorldId) (given : Named ℕ) (b : Bool) → ((naming : Naming) → None ≡ first_name (left_out (imports_at naming g w) given)) → (naming : Naming) → IsComplete (imports_at naming g w) b given
-complete_given g w given b none naming = inr (none_first (left_out (imports_at naming g w) given) (none naming))
+pub complete_given : (g : Parts) (w : WorldId) (given : Named ℕ) (b : Bool) → ((numbering : Numbering) → None ≡ first_name (left_out (imports_at numbering g w) given)) → (numbering : Numbering) → IsComplete (imports_at numbering g w) b given
+complete_given g w given b none numbering = inr (none_first (left_out (imports_at numbering g w) given) (none numbering))
 
-pub incomplete : (g : Parts) (w : WorldId) (x : PackageName) (args : Arguments) (given : Named ℕ) (name : List ℕ) (e : Error) → has_fill args ≡ false → ((naming : Naming) → Some name ≡ first_name (left_out (imports_at naming g w) given))
+pub incomplete : (g : Parts) (w : WorldId) (x : PackageName) (args : Arguments) (given : Named ℕ) (name : List ℕ) (e : Error) → has_fill args ≡ false → ((numbering : Numbering) → Some name ≡ first_name (left_out (imports_at numbering g w) given))
     → e ≡ missing_instantiation_arg name x.string x.span → IsIncomplete g w x args given e
-incomplete g w x args given name e none left told = (
+incomplete g w x args given name e none left error_is = (
   none,
-  λ naming.
-      let f = some_first (left_out (imports_at naming g w) given) name (left naming) in
-      (f.0, f.1, f.2, told ∙ ap (λ (n : List ℕ). missing_instantiation_arg n x.string x.span) (sym f.3)),
+  λ numbering.
+      let f = some_first (left_out (imports_at numbering g w) given) name (left numbering) in
+      (f.0, f.1, f.2, error_is ∙ ap (λ (n : List ℕ). missing_instantiation_arg n x.string x.span) (sym f.3)),
 )

@@ -122,13 +122,13 @@ making_end old now p node all rest is sound m =
     let number : node ≡ length old.nodes = m.number in record {
       grows = grows_more old now (last ∷ []) m.is (sound_stands now sound);
       there = omega (arith, longer, number);
-      is = λ held found naming declared.
+      is = λ held found numbering declared.
           let both : Some m.held ≡ Some held = sym m.found ∙ found in
           let one : m.held ≡ held = cc in
-          let c : Composition = composition_of naming old declared in
-          ap (λ (g : Parts). at (composition_of naming g declared) node) m.is
-          ∙ ap (λ (x : Composition). at x node) (composition_instance old declared p k (given_nodes m.done) naming m.held m.found)
-          ∙ ap (λ (l : Named NodeId). at (with_instance c m.held.key (means naming old k) (given_nodes l)) node) every
-          ∙ ap (λ (h : HeldPackage). at (with_instance c h.key (means naming old (kinds.Instance h.instance)) (given_nodes all)) node) one
-          ∙ ap (λ (n : ℕ). at (with_instance c held.key (means naming old (kinds.Instance held.instance)) (given_nodes all)) n) (number ∙ sym (next_is naming old declared));
+          let c : Composition = composition_of numbering old declared in
+          ap (λ (g : Parts). at (composition_of numbering g declared) node) m.is
+          ∙ ap (λ (x : Composition). at x node) (composition_instance old declared p k (given_nodes m.done) numbering m.held m.found)
+          ∙ ap (λ (l : Named NodeId). at (with_instance c m.held.key (means numbering old k) (given_nodes l)) node) every
+          ∙ ap (λ (h : HeldPackage). at (with_instance c h.key (means numbering old (kinds.Instance h.instance)) (given_nodes all)) node) one
+          ∙ ap (λ (n : ℕ). at (with_instance c held.key (means numbering old (kinds.Instance held.instance)) (given_nodes all)) n) (number ∙ sym (next_is numbering old declared));
     }

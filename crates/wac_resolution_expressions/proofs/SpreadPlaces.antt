@@ -1,5 +1,5 @@
 -- Places of spreads that give a name.
-use Rattle.wac_resolution_expressions.proofs.Common.{◌≡◌, ◌∙◌, ◌+◌, ◌<◌, ℕ, suc, List, [], ◌∷◌, ◌++◌, Option, Some, None, Bool, true, false, cond, refl, sym, ap, subst, map, take, drop, length, get_or, option_map, option_and_then, flat_map, bytes_eq, length-map, get_or-map, take_more, take-append-drop, drop-cons, Span, Ident, arguments_from, ItemKind, InterfaceId, Meaning, Named, look_up, exports_of, Names, argument_of, Parts, export_kind, means, entry_means, EntriesMean, Naming, spread_places, Composition, spread_of, spreads_of, instance_of, instance_at, read_found, IsInstance, composition_of, kind_in, is_instance, no_instance, export_meant, kind_means}
+use Rattle.wac_resolution_expressions.proofs.Common.{◌≡◌, ◌∙◌, ◌+◌, ◌<◌, ℕ, suc, List, [], ◌∷◌, ◌++◌, Option, Some, None, Bool, true, false, cond, refl, sym, ap, subst, map, take, drop, length, get_or, option_map, option_and_then, flat_map, bytes_eq, length-map, get_or-map, take_more, take-append-drop, drop-cons, Span, Ident, arguments_from, ItemKind, InterfaceId, Meaning, Named, look_up, exports_of, Names, argument_of, Parts, export_kind, means, entry_means, EntriesMean, Numbering, spread_places, Composition, spread_of, spreads_of, instance_of, instance_at, read_found, IsInstance, composition_of, kind_in, is_instance, no_instance, export_meant, kind_means}
 use Rattle.std.proofs.lemmas.Grind.{flat_map-append}
 use Rattle.wac_ast_grammar.specs.Tree.{InstantiationArgument}
 use Rattle.wac_graph_types.specs.declared.kind.ItemKind.TheVariants as kinds
@@ -10,24 +10,24 @@ use Rattle.wac_resolution_expressions.specs.Places.{exports_at}
 
 -- what an instance exports under a name, read at a span
 module _ (g : Parts) (node : ℕ) (i : InterfaceId) (name : List ℕ) (span : Span) (kind : kind_in g.nodes node ≡ Some (kinds.Instance i)) (named : Names g.types (kinds.Instance i)) (law : EntriesMean g) where
-  read_at : (r : Option ItemKind) → r ≡ export_kind g node name → (naming : Naming) (declared : Named ℕ)
-      → look_up name (exports_at span (instance_at (composition_of naming g declared) node)) ≡ option_map (λ (m : Meaning). span) (option_map (means naming g) r)
-  read_at r is naming declared =
+  read_at : (r : Option ItemKind) → r ≡ export_kind g node name → (numbering : Numbering) (declared : Named ℕ)
+      → look_up name (exports_at span (instance_at (composition_of numbering g declared) node)) ≡ option_map (λ (m : Meaning). span) (option_map (means numbering g) r)
+  read_at r is numbering declared =
       let h : IsInstance g node i = is_instance g node i kind named law in
-      ap (λ (o : Option Meaning). look_up name (exports_at span o)) (h.is naming declared)
-      ∙ read_found (λ (m : Meaning). span) name (exports_of (entry_means naming g i.0))
-      ∙ ap (option_map (λ (m : Meaning). span)) (export_meant g node i name h naming ∙ ap (option_map (means naming g)) (sym is))
+      ap (λ (o : Option Meaning). look_up name (exports_at span o)) (h.is numbering declared)
+      ∙ read_found (λ (m : Meaning). span) name (exports_of (entry_means numbering g i.0))
+      ∙ ap (option_map (λ (m : Meaning). span)) (export_meant g node i name h numbering ∙ ap (option_map (means numbering g)) (sym is))
 
-  pub exported_here : (k : ItemKind) → Some k ≡ export_kind g node name → (naming : Naming) (declared : Named ℕ) → look_up name (exports_at span (instance_at (composition_of naming g declared) node)) ≡ Some span
-  exported_here k is naming declared = read_at (Some k) is naming declared
+  pub exported_here : (k : ItemKind) → Some k ≡ export_kind g node name → (numbering : Numbering) (declared : Named ℕ) → look_up name (exports_at span (instance_at (composition_of numbering g declared) node)) ≡ Some span
+  exported_here k is numbering declared = read_at (Some k) is numbering declared
 
-  pub not_exported_here : None ≡ export_kind g node name → (naming : Naming) (declared : Named ℕ) → look_up name (exports_at span (instance_at (composition_of naming g declared) node)) ≡ None
-  not_exported_here is naming declared = read_at None is naming declared
+  pub not_exported_here : None ≡ export_kind g node name → (numbering : Numbering) (declared : Named ℕ) → look_up name (exports_at span (instance_at (composition_of numbering g declared) node)) ≡ None
+  not_exported_here is numbering declared = read_at None is numbering declared
 
 pub exports_nothing : (g : Parts) (node : ℕ) (k : ItemKind) (name : List ℕ) (span : Span) → kind_in g.nodes node ≡ Some k → ((i : InterfaceId) → k ≡ kinds.Instance i → ⊥)
-    → (naming : Naming) (declared : Named ℕ) → look_up name (exports_at span (instance_at (composition_of naming g declared) node)) ≡ None
-exports_nothing g node k name span kind none naming declared =
-    ap (λ (o : Option Meaning). look_up name (exports_at span o)) (ap instance_of (kind_means naming g node k kind) ∙ no_instance (entry_means naming g) k none)
+    → (numbering : Numbering) (declared : Named ℕ) → look_up name (exports_at span (instance_at (composition_of numbering g declared) node)) ≡ None
+exports_nothing g node k name span kind none numbering declared =
+    ap (λ (o : Option Meaning). look_up name (exports_at span o)) (ap instance_of (kind_means numbering g node k kind) ∙ no_instance (entry_means numbering g) k none)
 
 -- ---- a spread
 

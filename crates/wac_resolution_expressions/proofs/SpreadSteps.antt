@@ -1,5 +1,5 @@
 -- Spreads, in order.
-use Rattle.wac_resolution_expressions.proofs.Common.{◌≡◌, ◌∙◌, ◌+◌, ◌<◌, ℕ, suc, List, [], ◌∷◌, ◌++◌, Option, Some, None, Bool, true, false, cond, inr, refl, sym, ap, subst, map, take, drop, length, get_or, fold, is_some, append_assoc, append-nil, arith, string_bytes, String, flat_map, Global, length-map, get_or-map, take_more, take-append-drop, drop-cons, Ident, arguments_from, Entry, InterfaceId, WorldId, Meaning, by_name, Named, look_up, exports_of, imports_of, Steps, Fails, Names, argument_of, NodeId, Parts, entry_means, Naming, Error, spread_instantiation_no_match, SpreadBroken, Giving, at, alias_at, given_too, spread_step, spread_from, Spreads, spread_of, spreads_of, Root, GrowsNodes, IsInstance, NodesStand, numbers_of, NodeIs, grows_none, grows_on}
+use Rattle.wac_resolution_expressions.proofs.Common.{◌≡◌, ◌∙◌, ◌+◌, ◌<◌, ℕ, suc, List, [], ◌∷◌, ◌++◌, Option, Some, None, Bool, true, false, cond, inr, refl, sym, ap, subst, map, take, drop, length, get_or, fold, is_some, append_assoc, append-nil, arith, string_bytes, String, flat_map, Global, length-map, get_or-map, take_more, take-append-drop, drop-cons, Ident, arguments_from, Entry, InterfaceId, WorldId, Meaning, by_name, Named, look_up, exports_of, imports_of, Steps, Fails, Names, argument_of, NodeId, Parts, entry_means, Numbering, Error, spread_instantiation_no_match, SpreadBroken, Giving, at, alias_at, given_too, spread_step, spread_from, Spreads, spread_of, spreads_of, Root, GrowsNodes, IsInstance, NodesStand, numbers_of, NodeIs, grows_none, grows_on}
 use Rattle.wac_ast_grammar.specs.Tree.{InstantiationArgument}
 use Rattle.wac_graph_types.specs.declared.kind.ItemKind.TheVariants as kinds
 use Rattle.wac_ast_base.specs.declared.names.Ident.{Ident as CodeIdent}
@@ -47,53 +47,53 @@ given_length es = length-map (by_name es) (λ (e : List ℕ × NodeId). (e.0, e.
 
 pub spread_goes : (old new : Parts) (root : Root) (before after : List (String Global × NodeId)) (count : ℕ) (x : Ident) (n : NodeId) (i : InterfaceId) (w : WorldId) → NodeIs root x n → IsInstance old n.0 i
     → NodeSpread old new (by_name before) (by_name after) n.0 w → count ≡ length before → (length after ≡ count → ⊥)
-    → Gave old new (by_name before) (by_name after) (numbers_of root.nodes) (λ naming a b. Spreads (imports_at naming old w) a x b)
+    → Gave old new (by_name before) (by_name after) (numbers_of root.nodes) (λ numbering a b. Spreads (imports_at numbering old w) a x b)
 spread_goes old new root before after count x n i w is instance p counted apart = record {
   grows = p.grows;
   there = p.there;
-  is = λ naming. (
+  is = λ numbering. (
     n.0,
-    entry_means naming old i.0,
+    entry_means numbering old i.0,
     is.is,
-    instance.is naming (numbers_of root.nodes),
-    p.is i instance naming (numbers_of root.nodes),
+    instance.is numbering (numbers_of root.nodes),
+    p.is i instance numbering (numbers_of root.nodes),
     λ same. apart (sym (given_length after) ∙ ap length same ∙ given_length before ∙ sym counted),
   );
 }
 
 pub spread_matches_none : (old new : Parts) (root : Root) (before after : List (String Global × NodeId)) (count : ℕ) (x : Ident) (n : NodeId) (i : InterfaceId) (w : WorldId) (e : Error) → NodeIs root x n → IsInstance old n.0 i
     → NodeSpread old new (by_name before) (by_name after) n.0 w → count ≡ length before → length after ≡ count → e ≡ spread_instantiation_no_match x.span
-    → (naming : Naming) (earlier : List Ident) → SpreadBroken (imports_at naming old w) e (giving_of naming old (numbers_of root.nodes) (by_name before)) earlier x
-spread_matches_none old new root before after count x n i w e is instance p counted same told naming earlier =
-    let start : Giving = giving_of naming old (numbers_of root.nodes) (by_name before) in
-    let exports : Named Meaning = exports_of (entry_means naming old i.0) in
-    let gave : given_nodes (by_name after) ≡ (spread_from (imports_at naming old w) n.0 exports start).arguments = ap (λ (g : Giving). g.arguments) (p.is i instance naming (numbers_of root.nodes)) in
-    let none : (spread_from (imports_at naming old w) n.0 exports start).arguments ≡ start.arguments =
-    same_length start.arguments (spread_from (imports_at naming old w) n.0 exports start).arguments (from_longer n.0 exports start (imports_at naming old w))
+    → (numbering : Numbering) (earlier : List Ident) → SpreadBroken (imports_at numbering old w) e (giving_of numbering old (numbers_of root.nodes) (by_name before)) earlier x
+spread_matches_none old new root before after count x n i w e is instance p counted same error_is numbering earlier =
+    let start : Giving = giving_of numbering old (numbers_of root.nodes) (by_name before) in
+    let exports : Named Meaning = exports_of (entry_means numbering old i.0) in
+    let gave : given_nodes (by_name after) ≡ (spread_from (imports_at numbering old w) n.0 exports start).arguments = ap (λ (g : Giving). g.arguments) (p.is i instance numbering (numbers_of root.nodes)) in
+    let none : (spread_from (imports_at numbering old w) n.0 exports start).arguments ≡ start.arguments =
+    same_length start.arguments (spread_from (imports_at numbering old w) n.0 exports start).arguments (from_longer n.0 exports start (imports_at numbering old w))
     (ap length (sym gave) ∙ given_length after ∙ same ∙ counted ∙ sym (given_length before)) in
-    inr (n.0, is.is, inr (record { instance = entry_means naming old i.0; there = instance.is naming (numbers_of root.nodes); unchanged = none; error = told }))
+    inr (n.0, is.is, inr (record { instance = entry_means numbering old i.0; there = instance.is numbering (numbers_of root.nodes); unchanged = none; error = error_is }))
 
 -- ---- an argument
 
 module _ (old : Parts) (w : WorldId) (declared : Named ℕ) where
   -- these spreads were given
   abbrev pub SpreadsGave : Parts → Named NodeId → Named NodeId → List Ident → Type 0
-  SpreadsGave new before after xs = Gave old new before after declared (λ naming a b. Steps (Spreads (imports_at naming old w)) a xs b)
+  SpreadsGave new before after xs = Gave old new before after declared (λ numbering a b. Steps (Spreads (imports_at numbering old w)) a xs b)
 
   -- one of them is broken
   abbrev pub SpreadsBreak : Error → Named NodeId → List Ident → Type 0
-  SpreadsBreak e before xs = (naming : Naming) → Fails (Spreads (imports_at naming old w)) (SpreadBroken (imports_at naming old w) e) (giving_of naming old declared before) xs
+  SpreadsBreak e before xs = (numbering : Numbering) → Fails (Spreads (imports_at numbering old w)) (SpreadBroken (imports_at numbering old w) e) (giving_of numbering old declared before) xs
 
   pub gave_none : (before : Named NodeId) (xs : List Ident) → NodesStand old → GivenThere old before → xs ≡ [] → SpreadsGave old before before xs
-  gave_none before xs stand there is = subst (SpreadsGave old before before) (sym is) (record { grows = grows_none old stand; there = there; is = λ naming. refl })
+  gave_none before xs stand there is = subst (SpreadsGave old before before) (sym is) (record { grows = grows_none old stand; there = there; is = λ numbering. refl })
 
-  pub gave_one : (new : Parts) (before after : Named NodeId) (x : Ident) (xs : List Ident) → xs ≡ x ∷ [] → Gave old new before after declared (λ naming a b. Spreads (imports_at naming old w) a x b) → SpreadsGave new before after xs
-  gave_one new before after x xs is p = subst (SpreadsGave new before after) (sym is) (record { grows = p.grows; there = p.there; is = λ naming. (giving_of naming new declared after, p.is naming, refl) })
+  pub gave_one : (new : Parts) (before after : Named NodeId) (x : Ident) (xs : List Ident) → xs ≡ x ∷ [] → Gave old new before after declared (λ numbering a b. Spreads (imports_at numbering old w) a x b) → SpreadsGave new before after xs
+  gave_one new before after x xs is p = subst (SpreadsGave new before after) (sym is) (record { grows = p.grows; there = p.there; is = λ numbering. (giving_of numbering new declared after, p.is numbering, refl) })
 
   pub breaks_one : (before : Named NodeId) (x : Ident) (xs : List Ident) (e : Error) → xs ≡ x ∷ []
-      → ((naming : Naming) (earlier : List Ident) → SpreadBroken (imports_at naming old w) e (giving_of naming old declared before) earlier x) → SpreadsBreak e before xs
+      → ((numbering : Numbering) (earlier : List Ident) → SpreadBroken (imports_at numbering old w) e (giving_of numbering old declared before) earlier x) → SpreadsBreak e before xs
   breaks_one before x xs e is h = subst (SpreadsBreak e before) (sym is)
-      (λ naming. record { before = []; failing = x; after = []; split = refl; reached = giving_of naming old declared before; leads = refl; breaks = h naming [] })
+      (λ numbering. record { before = []; failing = x; after = []; split = refl; reached = giving_of numbering old declared before; leads = refl; breaks = h numbering [] })
 
 pub not_spread : (a : CodeArgument) → ((x : CodeIdent) → a ≡ Spread x → ⊥) → spread_of (argument_of a) ≡ []
 not_spread (Inferred x) h = refl
@@ -147,8 +147,8 @@ fails_within {S} {X} step broken loose old xs ys zs mid p f = record {
   breaks = loose f.reached f.before (xs ++ f.before) f.failing f.breaks;
 }
 
-pub imports_same : (old new : Parts) (w : WorldId) → GrowsNodes old new → (naming : Naming) → imports_at naming new w ≡ imports_at naming old w
-imports_same old new w g naming = ap imports_of (entry_same old new g naming w.0)
+pub imports_same : (old new : Parts) (w : WorldId) → GrowsNodes old new → (numbering : Numbering) → imports_at numbering new w ≡ imports_at numbering old w
+imports_same old new w g numbering = ap imports_of (entry_same old new g numbering w.0)
 
 pub world_kept : (old new : Parts) (w : WorldId) → GrowsNodes old new → Names old.types (kinds.Component w) → Names new.types (kinds.Component w)
 world_kept old new w g h = subst (λ (es : List Entry). Names es (kinds.Component w)) (sym (ap (λ (p : Parts). p.types) g.same)) h
@@ -166,22 +166,22 @@ module _ (old mid : Parts) (w : WorldId) (declared : Named ℕ) (before between 
   spreads_next new after q = record {
     grows = grows_on old mid new p.grows q.grows;
     there = q.there;
-    is = λ naming.
+    is = λ numbering.
         let now : List Ident = spread_of (argument_of y) in
         let so_far : List Ident = spreads_of (arguments_from (take i (map argument_of ys))) in
         let all : spreads_of (arguments_from (take (i + 1) (map argument_of ys))) ≡ so_far ++ now = spreads_more (map argument_of ys) i (argument_of y) inside ∙ ap (λ (l : List Ident). so_far ++ l) here in
-        subst (λ (l : List Ident). Steps (Spreads (imports_at naming old w)) (giving_of naming old declared before) l (giving_of naming new declared after)) (sym all)
-        (steps_join (Spreads (imports_at naming old w)) (giving_of naming old declared before) so_far now (giving_of naming mid declared between) (giving_of naming new declared after) (p.is naming)
-        (subst (λ (l : Named Meaning). Steps (Spreads l) (giving_of naming mid declared between) now (giving_of naming new declared after)) (imports_same old mid w p.grows naming) (q.is naming)));
+        subst (λ (l : List Ident). Steps (Spreads (imports_at numbering old w)) (giving_of numbering old declared before) l (giving_of numbering new declared after)) (sym all)
+        (steps_join (Spreads (imports_at numbering old w)) (giving_of numbering old declared before) so_far now (giving_of numbering mid declared between) (giving_of numbering new declared after) (p.is numbering)
+        (subst (λ (l : Named Meaning). Steps (Spreads l) (giving_of numbering mid declared between) now (giving_of numbering new declared after)) (imports_same old mid w p.grows numbering) (q.is numbering)));
   }
 
   pub spreads_break : (e : Error) → SpreadsBreak mid w declared e between (spread_of (argument_of y)) → SpreadsBreak old w declared e before (spreads_of (arguments_from (map argument_of ys)))
-  spreads_break e h naming =
-      let imports : Named Meaning = imports_at naming old w in
+  spreads_break e h numbering =
+      let imports : Named Meaning = imports_at numbering old w in
       let now : List Ident = spread_of (argument_of y) in
       let so_far : List Ident = spreads_of (arguments_from (take i (map argument_of ys))) in
       let rest : List Ident = flat_map spread_of (drop (suc i) (map argument_of ys)) in
       let all : spreads_of (arguments_from (map argument_of ys)) ≡ so_far ++ (now ++ rest) = spreads_split (map argument_of ys) i (argument_of y) inside ∙ ap (λ (l : List Ident). so_far ++ (l ++ rest)) here in
-      subst (λ (l : List Ident). Fails (Spreads imports) (SpreadBroken imports e) (giving_of naming old declared before) l) (sym all)
-      (fails_within (Spreads imports) (SpreadBroken imports e) (λ s a b x broken. broken) (giving_of naming old declared before) so_far now rest (giving_of naming mid declared between) (p.is naming)
-      (subst (λ (l : Named Meaning). Fails (Spreads l) (SpreadBroken l e) (giving_of naming mid declared between) now) (imports_same old mid w p.grows naming) (h naming)))
+      subst (λ (l : List Ident). Fails (Spreads imports) (SpreadBroken imports e) (giving_of numbering old declared before) l) (sym all)
+      (fails_within (Spreads imports) (SpreadBroken imports e) (λ s a b x broken. broken) (giving_of numbering old declared before) so_far now rest (giving_of numbering mid declared between) (p.is numbering)
+      (subst (λ (l : Named Meaning). Fails (Spreads l) (SpreadBroken l e) (giving_of numbering mid declared between) now) (imports_same old mid w p.grows numbering) (h numbering)))

@@ -1,5 +1,5 @@
 -- Spreads, name by name.
-use Rattle.wac_resolution_expressions.proofs.Common.{◌≡◌, ◌∙◌, ◌+◌, ◌<◌, ℕ, List, [], ◌∷◌, ◌++◌, Option, Some, None, Bool, true, false, cond, refl, sym, ap, subst, map, take, length, get_or, fold, is_some, is_none, append_assoc, append-nil, option_map, IfSome, string_bytes, String, Global, map_push, length-map, get_or-map, ItemKind, InterfaceId, WorldId, Entry, Meaning, interface_exports, world_imports, Named, look_up, with_named, exports_of, items_mean, Names, NodeId, Parts, export_kind, means, entry_means, EntriesMean, Naming, At, Giving, at, alias_at, given_too, spread_step, names_of, instance_of, read_found, AliasStep, GrowsNodes, IsInstance, composition_of, kind_in, NodesStand, grows_none, grows_on, still_there, export_meant, kind_means}
+use Rattle.wac_resolution_expressions.proofs.Common.{◌≡◌, ◌∙◌, ◌+◌, ◌<◌, ℕ, List, [], ◌∷◌, ◌++◌, Option, Some, None, Bool, true, false, cond, refl, sym, ap, subst, map, take, length, get_or, fold, is_some, is_none, append_assoc, append-nil, option_map, IfSome, string_bytes, String, Global, map_push, length-map, get_or-map, ItemKind, InterfaceId, WorldId, Entry, Meaning, interface_exports, world_imports, Named, look_up, with_named, exports_of, items_mean, Names, NodeId, Parts, export_kind, means, entry_means, EntriesMean, Numbering, At, Giving, at, alias_at, given_too, spread_step, names_of, instance_of, read_found, AliasStep, GrowsNodes, IsInstance, composition_of, kind_in, NodesStand, grows_none, grows_on, still_there, export_meant, kind_means}
 use Rattle.std.proofs.lemmas.List.Sums.{fold_more}
 use Rattle.wac_graph_types.specs.declared.kind.ItemKind.TheVariants as kinds
 use Rattle.wac_resolution_expressions.specs.Arguments.{given_nodes}
@@ -7,8 +7,8 @@ use Rattle.wac_resolution_expressions.specs.Spreads.{giving_of, GivenThere, impo
 use Rattle.wac_resolution_expressions.proofs.Imports.{imports_meant}
 
 -- with more nodes entries mean the same
-pub entry_same : (old new : Parts) → GrowsNodes old new → (naming : Naming) (i : ℕ) → entry_means naming new i ≡ entry_means naming old i
-entry_same old new g naming i = ap (λ (p : Parts). entry_means naming p i) g.same
+pub entry_same : (old new : Parts) → GrowsNodes old new → (numbering : Numbering) (i : ℕ) → entry_means numbering new i ≡ entry_means numbering old i
+entry_same old new g numbering i = ap (λ (p : Parts). entry_means numbering p i) g.same
 
 types_same : (old new : Parts) → GrowsNodes old new → new.types ≡ old.types
 types_same old new g = ap (λ (p : Parts). p.types) g.same
@@ -18,8 +18,8 @@ pub instance_kept : (old new : Parts) (node : ℕ) (i : InterfaceId) → GrowsNo
 instance_kept old new node i g h = record {
   kind = kind;
   named = subst (λ (es : List Entry). Names es (kinds.Instance i)) (sym (types_same old new g)) h.named;
-  is = λ naming declared. ap instance_of (kind_means naming new node (kinds.Instance i) kind);
-  exports = λ naming. subst (λ (p : Parts). exports_of (entry_means naming p i.0) ≡ items_mean (entry_means naming p) (interface_exports p.types i.0)) (sym g.same) (h.exports naming);
+  is = λ numbering declared. ap instance_of (kind_means numbering new node (kinds.Instance i) kind);
+  exports = λ numbering. subst (λ (p : Parts). exports_of (entry_means numbering p i.0) ≡ items_mean (entry_means numbering p) (interface_exports p.types i.0)) (sym g.same) (h.exports numbering);
 }
   where
     kind : kind_in new.nodes node ≡ Some (kinds.Instance i)
@@ -60,7 +60,7 @@ pub name_given : (g : Parts) (all : Named NodeId) (node : ℕ) (name : List ℕ)
 name_given g all node name stand there is = record {
   grows = grows_none g stand;
   there = there;
-  is = λ i h naming declared. sym (spread_given node (exports_of (entry_means naming g i.0)) (giving_of naming g declared all) name (given_some all name ∙ is));
+  is = λ i h numbering declared. sym (spread_given node (exports_of (entry_means numbering g i.0)) (giving_of numbering g declared all) name (given_some all name ∙ is));
 }
 
 none_is : {X : Type 0} (o : Option X) → is_none o ≡ true → o ≡ None
@@ -71,9 +71,9 @@ pub name_missing : (g : Parts) (all : Named NodeId) (node : ℕ) (name : List �
 name_missing g all node name stand there is none = record {
   grows = grows_none g stand;
   there = there;
-  is = λ i h naming declared.
-      sym (spread_open node (exports_of (entry_means naming g i.0)) (giving_of naming g declared all) name None (given_some all name ∙ is)
-      (export_meant g node i name h naming ∙ ap (option_map (means naming g)) (none_is (export_kind g node name) none)));
+  is = λ i h numbering declared.
+      sym (spread_open node (exports_of (entry_means numbering g i.0)) (giving_of numbering g declared all) name None (given_some all name ∙ is)
+      (export_meant g node i name h numbering ∙ ap (option_map (means numbering g)) (none_is (export_kind g node name) none)));
 }
 
 name_aliased : (old new : Parts) (before after : Named NodeId) (node : ℕ) (name : List ℕ) (n : NodeId) (k : ItemKind) → GivenThere old before → is_some (look_up name before) ≡ false → export_kind old node name ≡ Some k
@@ -81,10 +81,10 @@ name_aliased : (old new : Parts) (before after : Named NodeId) (node : ℕ) (nam
 name_aliased old new before after node name n k there is exported goes pushed = record {
   grows = goes.grows;
   there = subst (GivenThere new) (sym pushed) (given_more new before name n (given_kept old new before goes.grows there) goes.there);
-  is = λ i h naming declared.
-      ap (λ (l : Named ℕ). record { composition = composition_of naming new declared; arguments = l }) (ap given_nodes pushed ∙ map_push (λ (e : List ℕ × NodeId). (e.0, e.1.0)) before (name, n))
-      ∙ ap (λ (a : At). record { composition = a.composition; arguments = with_named (given_nodes before) name a.node }) (goes.is naming declared)
-      ∙ sym (spread_open node (exports_of (entry_means naming old i.0)) (giving_of naming old declared before) name (Some (means naming old k)) (given_some before name ∙ is) (export_meant old node i name h naming ∙ ap (option_map (means naming old)) exported));
+  is = λ i h numbering declared.
+      ap (λ (l : Named ℕ). record { composition = composition_of numbering new declared; arguments = l }) (ap given_nodes pushed ∙ map_push (λ (e : List ℕ × NodeId). (e.0, e.1.0)) before (name, n))
+      ∙ ap (λ (a : At). record { composition = a.composition; arguments = with_named (given_nodes before) name a.node }) (goes.is numbering declared)
+      ∙ sym (spread_open node (exports_of (entry_means numbering old i.0)) (giving_of numbering old declared before) name (Some (means numbering old k)) (given_some before name ∙ is) (export_meant old node i name h numbering ∙ ap (option_map (means numbering old)) exported));
 }
 
 pub name_exported : (old new : Parts) (before after : Named NodeId) (node : ℕ) (name : List ℕ) (n : NodeId) → GivenThere old before → is_some (look_up name before) ≡ false → is_none (export_kind old node name) ≡ false
@@ -98,20 +98,20 @@ name_exported old new before after node name n there is some goes pushed = go (e
 -- ---- in order
 
 pub no_names : (g : Parts) (all : Named NodeId) (node : ℕ) → NodesStand g → GivenThere g all → NamesSpread g g all all node []
-no_names g all node stand there = record { grows = grows_none g stand; there = there; is = λ i h naming declared. refl }
+no_names g all node stand there = record { grows = grows_none g stand; there = there; is = λ i h numbering declared. refl }
 
 pub names_on : (old mid new : Parts) (before between after : Named NodeId) (node : ℕ) (names : List (List ℕ)) (i : ℕ) (name d : List ℕ) → i < length names → get_or names i d ≡ name
     → NamesSpread old mid before between node (take i names) → NamesSpread mid new between after node (name ∷ []) → NamesSpread old new before after node (take (i + 1) names)
 names_on old mid new before between after node names i name d within is p q = record {
   grows = grows_on old mid new p.grows q.grows;
   there = q.there;
-  is = λ x h naming declared.
-      let exports : Named Meaning = exports_of (entry_means naming old x.0) in
-      q.is x (instance_kept old mid node x p.grows h) naming declared
-      ∙ ap (λ (m : Meaning). name_spread node (exports_of m) (giving_of naming mid declared between) name) (entry_same old mid p.grows naming x.0)
-      ∙ ap (λ (g : Giving). name_spread node exports g name) (p.is x h naming declared)
-      ∙ ap (name_spread node exports (fold (name_spread node exports) (giving_of naming old declared before) (take i names))) (sym is)
-      ∙ sym (fold_more (name_spread node exports) (giving_of naming old declared before) names i d within);
+  is = λ x h numbering declared.
+      let exports : Named Meaning = exports_of (entry_means numbering old x.0) in
+      q.is x (instance_kept old mid node x p.grows h) numbering declared
+      ∙ ap (λ (m : Meaning). name_spread node (exports_of m) (giving_of numbering mid declared between) name) (entry_same old mid p.grows numbering x.0)
+      ∙ ap (λ (g : Giving). name_spread node exports g name) (p.is x h numbering declared)
+      ∙ ap (name_spread node exports (fold (name_spread node exports) (giving_of numbering old declared before) (take i names))) (sym is)
+      ∙ sym (fold_more (name_spread node exports) (giving_of numbering old declared before) names i d within);
 }
 
 -- the same in a loop
@@ -154,9 +154,9 @@ pub spread_over : (old new : Parts) (before after : Named NodeId) (node : ℕ) (
 spread_over old new before after node w names law named are p = record {
   grows = p.grows;
   there = p.there;
-  is = λ i h naming declared.
-      let exports : Named Meaning = exports_of (entry_means naming old i.0) in
-      let start : Giving = giving_of naming old declared before in
-      let imported : names_of (imports_at naming old w) ≡ names = ap names_of (imports_meant old w law named naming) ∙ names_mean (entry_means naming old) (world_imports old.types w.0) ∙ sym are in
-      p.is i h naming declared ∙ ap (fold (name_spread node exports) start) (sym imported) ∙ sym (by_names node exports start (imports_at naming old w));
+  is = λ i h numbering declared.
+      let exports : Named Meaning = exports_of (entry_means numbering old i.0) in
+      let start : Giving = giving_of numbering old declared before in
+      let imported : names_of (imports_at numbering old w) ≡ names = ap names_of (imports_meant old w law named numbering) ∙ names_mean (entry_means numbering old) (world_imports old.types w.0) ∙ sym are in
+      p.is i h numbering declared ∙ ap (fold (name_spread node exports) start) (sym imported) ∙ sym (by_names node exports start (imports_at numbering old w));
 }

@@ -8,7 +8,7 @@ use Rattle.wac_graph_types.specs.Readings.{world_imports}
 use Rattle.wac_graph_types.specs.Scope.{Named, look_up, IsFresh, StandsFor}
 use Rattle.wac_graph.specs.declared.node.NodeId.{NodeId}
 use Rattle.wac_graph.specs.Graph.{Parts}
-use Rattle.wac_graph.specs.Origin.{Naming, IsOneToOne}
+use Rattle.wac_graph.specs.Origin.{Numbering, IsOneToOne}
 use Rattle.wac_resolution_rules.specs.Composition.{kind_at}
 use Rattle.wac_resolution_rules.specs.Expressions.{Fits}
 use Rattle.wac_resolution_rules.specs.Given.{Rules}
@@ -23,18 +23,18 @@ IsImport g w a = IsSome (look_up a.0 (world_imports g.types w.0))
 -- the argument is for an import of the world, and its node fits it
 pub record IsFit (rules : Rules) (g : Parts) (w : WorldId) (name : List ℕ) (node : ℕ) : Type 0 where
   pub import : IsImport g w (name, node)
-  pub is : (naming : Naming) (declared : Named ℕ) → IsOneToOne naming
-      → Fits rules (imports_at naming g w) (composition_of naming g declared).nodes (name, node)
+  pub is : (numbering : Numbering) (declared : Named ℕ) → IsOneToOne numbering
+      → Fits rules (imports_at numbering g w) (composition_of numbering g declared).nodes (name, node)
 
 -- the world has no such import
 pub record IsForNone (g : Parts) (w : WorldId) (name : List ℕ) : Type 0 where
-  pub is : (naming : Naming) → IsFresh name (imports_at naming g w)
+  pub is : (numbering : Numbering) → IsFresh name (imports_at numbering g w)
 
 -- the argument is for an import, but its node does not fit it, for this reason
 pub record IsUnfit (rules : Rules) (g : Parts) (w : WorldId) (name : List ℕ) (node : ℕ) (r : Reason) : Type 0 where
-  pub is : (naming : Naming) (declared : Named ℕ) → IsOneToOne naming
-      → (wants : Meaning) × StandsFor (imports_at naming g w) name wants
-      × (rules.passes (kind_at (composition_of naming g declared).nodes node) wants ≡ Some r)
+  pub is : (numbering : Numbering) (declared : Named ℕ) → IsOneToOne numbering
+      → (wants : Meaning) × StandsFor (imports_at numbering g w) name wants
+      × (rules.passes (kind_at (composition_of numbering g declared).nodes node) wants ≡ Some r)
 
 -- it doesn't fit; without a reason it is for no import
 abbrev pub IsAgainst : Rules → Parts → WorldId → List ℕ → ℕ → Option Reason → Type 0
@@ -42,8 +42,8 @@ IsAgainst rules g w name node r = MatchOption r (IsForNone g w name) (λ x. IsUn
 
 -- these arguments fit
 abbrev pub FitAll : Rules → Parts → WorldId → Named ℕ → Type 0
-FitAll rules g w all = (naming : Naming) (declared : Named ℕ) → IsOneToOne naming
-    → AllByRecursion (Fits rules (imports_at naming g w) (composition_of naming g declared).nodes) all
+FitAll rules g w all = (numbering : Numbering) (declared : Named ℕ) → IsOneToOne numbering
+    → AllByRecursion (Fits rules (imports_at numbering g w) (composition_of numbering g declared).nodes) all
 
 -- each argument fits
 pub record AllFit (rules : Rules) (g : Parts) (w : WorldId) (all : Named NodeId) : Type 0 where

@@ -7,7 +7,7 @@ use Rattle.wac_graph_types.specs.Package.{PackageParts}
 use Rattle.wac_graph_types.specs.Scope.{Named, IsFresh, StandsFor, with_named}
 use Rattle.wac_graph.specs.declared.node.NodeId.{NodeId}
 use Rattle.wac_graph.specs.Graph.{Parts}
-use Rattle.wac_graph.specs.Origin.{Naming, IsOneToOne}
+use Rattle.wac_graph.specs.Origin.{Numbering, IsOneToOne}
 use Rattle.wac_graph.specs.Package.{Key}
 use Rattle.wac_resolution_errors.specs.Error.{Error, duplicate_instantiation_arg}
 use Rattle.wac_resolution_rules.specs.BrokenExpressions.{ArgumentBroken, ArgumentsBroken}
@@ -35,42 +35,42 @@ IsGiven before name span e = (n : ℕ) × StandsFor (given_nodes before) name n
     × (e ≡ duplicate_instantiation_arg name span)
 
 -- the same of a name that is meant
-pub record GivesFor (before after : Named NodeId) (meant : Naming → List ℕ) (node : NodeId) : Type 0 where
-  pub is : (naming : Naming) → GivesNode before after (meant naming) node
+pub record GivesFor (before after : Named NodeId) (meant : Numbering → List ℕ) (node : NodeId) : Type 0 where
+  pub is : (numbering : Numbering) → GivesNode before after (meant numbering) node
 
-abbrev pub IsGivenFor : Named NodeId → (Naming → List ℕ) → Span → Error → Type 0
-IsGivenFor before meant span e = (naming : Naming) → IsGiven before (meant naming) span e
+abbrev pub IsGivenFor : Named NodeId → (Numbering → List ℕ) → Span → Error → Type 0
+IsGivenFor before meant span e = (numbering : Numbering) → IsGiven before (meant numbering) span e
 
 -- nodes were given while the graph was extended, and this holds of what was given before and after
 pub record GivesOn (packages : List (Key × PackageParts)) (old new : Parts) (before after : Named NodeId)
-    (declared : Named ℕ) (holds : Naming → Giving → Giving → Type 0) : Type 0 where
+    (declared : Named ℕ) (holds : Numbering → Giving → Giving → Type 0) : Type 0 where
   pub extends : Extends packages old new
   pub there : GivenThere new after
-  pub is : (naming : Naming) → IsOneToOne naming
-      → holds naming (giving_of naming old declared before) (giving_of naming new declared after)
+  pub is : (numbering : Numbering) → IsOneToOne numbering
+      → holds numbering (giving_of numbering old declared before) (giving_of numbering new declared after)
 
 -- an argument is given, the last one or one before others
 abbrev pub ArgumentStep : Context → Rules → Parts → Parts → Named NodeId → Named NodeId → Named ℕ → WorldId → Bool
     → InstantiationArgument → Type 0
 ArgumentStep context rules old new before after declared w is_last x =
     GivesOn (packages_in context) old new before after declared
-    (λ naming a b. (rest : Arguments) → is_none rest ≡ is_last
-    → GivesOne (given_in naming context rules) (imports_at naming old w) rest a x b)
+    (λ numbering a b. (rest : Arguments) → is_none rest ≡ is_last
+    → GivesOne (given_in numbering context rules) (imports_at numbering old w) rest a x b)
 
 abbrev pub ArgumentBreaks : Context → Rules → Parts → Named NodeId → Named ℕ → WorldId → Bool → InstantiationArgument
     → Error → Type 0
-ArgumentBreaks context rules g before declared w is_last x e = (naming : Naming) (rest : Arguments) → IsOneToOne naming
+ArgumentBreaks context rules g before declared w is_last x e = (numbering : Numbering) (rest : Arguments) → IsOneToOne numbering
     → is_none rest ≡ is_last
-    → ArgumentBroken (given_in naming context rules) (imports_at naming g w) rest (giving_of naming g declared before) e
+    → ArgumentBroken (given_in numbering context rules) (imports_at numbering g w) rest (giving_of numbering g declared before) e
     x
 
 -- the arguments that aren't spreads are given in order
 abbrev pub ArgumentSteps : Context → Rules → Parts → Parts → Named NodeId → Named NodeId → Named ℕ → WorldId → Arguments
     → Type 0
 ArgumentSteps context rules old new before after declared w args = GivesOn (packages_in context) old new before after
-    declared (λ naming a b. Gives (given_in naming context rules) (imports_at naming old w) a args b)
+    declared (λ numbering a b. Gives (given_in numbering context rules) (imports_at numbering old w) a args b)
 
 abbrev pub ArgumentsBreak : Context → Rules → Parts → Named NodeId → Named ℕ → WorldId → Arguments → Error → Type 0
-ArgumentsBreak context rules g before declared w args e = (naming : Naming) → IsOneToOne naming
-    → ArgumentsBroken (given_in naming context rules) (imports_at naming g w) (giving_of naming g declared before) e
+ArgumentsBreak context rules g before declared w args e = (numbering : Numbering) → IsOneToOne numbering
+    → ArgumentsBroken (given_in numbering context rules) (imports_at numbering g w) (giving_of numbering g declared before) e
     args

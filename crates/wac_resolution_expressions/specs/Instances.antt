@@ -5,7 +5,7 @@ use Rattle.wac_graph_types.specs.Scope.{Named}
 use Rattle.wac_graph.specs.declared.node.NodeId.{NodeId}
 use Rattle.wac_graph.specs.Graph.{Parts}
 use Rattle.wac_graph.specs.Means.{means}
-use Rattle.wac_graph.specs.Origin.{Naming}
+use Rattle.wac_graph.specs.Origin.{Numbering}
 use Rattle.wac_graph.specs.Package.{HeldPackage}
 use Rattle.wac_resolution_rules.specs.Expressions.{at}
 use Rattle.wac_resolution_rules.specs.Nodes.{next_of, with_instance}
@@ -17,8 +17,8 @@ use Rattle.wac_resolution_expressions.specs.Arguments.{given_nodes}
 pub record MakesInstance (old new : Parts) (p : ℕ) (given : Named NodeId) (n : ℕ) : Type 0 where
   pub grows : GrowsNodes old new
   pub there : n < length new.nodes
-  pub is : (held : HeldPackage) → slice_get old.packages p ≡ Some held → (naming : Naming) (declared : Named ℕ)
-      → at (composition_of naming new declared) n
-      ≡ at (with_instance (composition_of naming old declared) held.key
-      (means naming old (kinds.Instance held.instance)) (given_nodes given))
-      (next_of (composition_of naming old declared))
+  pub is : (held : HeldPackage) → slice_get old.packages p ≡ Some held → (numbering : Numbering) (declared : Named ℕ)
+      → at (composition_of numbering new declared) n
+      ≡ at (with_instance (composition_of numbering old declared) held.key
+      (means numbering old (kinds.Instance held.instance)) (given_nodes given))
+      (next_of (composition_of numbering old declared))

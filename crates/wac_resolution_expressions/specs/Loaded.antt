@@ -5,7 +5,7 @@ use Rattle.wac_graph_types.specs.Scope.{Named}
 use Rattle.wac_graph_types.specs.Table.{Names}
 use Rattle.wac_ast_grammar.specs.Tree.{PackageName}
 use Rattle.wac_graph.specs.Graph.{Parts}
-use Rattle.wac_graph.specs.Origin.{Naming}
+use Rattle.wac_graph.specs.Origin.{Numbering}
 use Rattle.wac_graph.specs.Package.{HeldPackage}
 use Rattle.wac_graph.specs.Packages.{contents_in}
 use Rattle.wac_resolution_rules.specs.Given.{Rules, instantiable, key_named}
@@ -28,10 +28,10 @@ IsThere g p = (held : HeldPackage) × IsLoaded g p held
 -- the package of the name may be instantiated, and the new graph holds it
 pub record IsInstantiable (context : Context) (old new : Parts) (x : PackageName) (p : Loaded) : Type 0 where
   pub extends : Extends (packages_in context) old new
-  pub composition : (naming : Naming) (declared : Named ℕ)
-      → composition_of naming new declared ≡ composition_of naming old declared
+  pub composition : (numbering : Numbering) (declared : Named ℕ)
+      → composition_of numbering new declared ≡ composition_of numbering old declared
   pub held : HeldPackage
   pub loaded : IsLoaded new p held
   pub key : held.key ≡ key_named x
-  pub is : (naming : Naming) (rules : Rules)
-      → instantiable (given_in naming context rules) x ≡ Some (contents_in naming new held)
+  pub is : (numbering : Numbering) (rules : Rules)
+      → instantiable (given_in numbering context rules) x ≡ Some (contents_in numbering new held)

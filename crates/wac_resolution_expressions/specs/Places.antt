@@ -9,7 +9,7 @@ use Rattle.wac_graph_types.specs.Scope.{Named, look_up}
 use Rattle.wac_graph_types.specs.Shape.{exports_of}
 use Rattle.wac_graph.specs.declared.node.NodeId.{NodeId}
 use Rattle.wac_graph.specs.Graph.{Parts}
-use Rattle.wac_graph.specs.Origin.{Naming, IsOneToOne}
+use Rattle.wac_graph.specs.Origin.{Numbering, IsOneToOne}
 use Rattle.wac_resolution_rules.specs.BrokenExpressions.{own_places, argument_places}
 use Rattle.wac_resolution_state.specs.Nodes.{composition_of}
 use Rattle.wac_resolution_expressions.specs.Arguments.{given_nodes}
@@ -22,13 +22,13 @@ exports_at span (Some i) = map (λ x. (x.0, span)) (exports_of i)
 
 -- each argument that is given is among those that aren't spreads
 abbrev pub StandThemselves : Parts → Named ℕ → WorldId → Arguments → Named NodeId → Type 0
-StandThemselves g declared w args given = (naming : Naming) → IsOneToOne naming
+StandThemselves g declared w args given = (numbering : Numbering) → IsOneToOne numbering
     → AllByRecursion (λ a. IsSome
-    (look_up a.0 (own_places (composition_of naming g declared) (imports_at naming g w) args))) (given_nodes given)
+    (look_up a.0 (own_places (composition_of numbering g declared) (imports_at numbering g w) args))) (given_nodes given)
 
 -- each is among them, or a spread gives it
 abbrev pub StandSomewhere : Parts → Named ℕ → WorldId → Arguments → Named NodeId → Type 0
-StandSomewhere g declared w args given = (naming : Naming) → IsOneToOne naming
+StandSomewhere g declared w args given = (numbering : Numbering) → IsOneToOne numbering
     → AllByRecursion (λ a. IsSome
-    (look_up a.0 (argument_places (composition_of naming g declared) (imports_at naming g w) args)))
+    (look_up a.0 (argument_places (composition_of numbering g declared) (imports_at numbering g w) args)))
     (given_nodes given)

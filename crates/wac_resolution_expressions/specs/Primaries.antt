@@ -3,7 +3,7 @@ use Rattle.std.specs.Prelude.{◌<◌, ℕ, length}
 use Rattle.wac_graph_types.specs.Scope.{Named}
 use Rattle.wac_ast_grammar.specs.Tree.{PrimaryExpr}
 use Rattle.wac_graph.specs.Graph.{Parts}
-use Rattle.wac_graph.specs.Origin.{Naming, IsOneToOne}
+use Rattle.wac_graph.specs.Origin.{Numbering, IsOneToOne}
 use Rattle.wac_resolution_errors.specs.Error.{Error}
 use Rattle.wac_resolution_rules.specs.BrokenExpressions.{PrimaryBroken}
 use Rattle.wac_resolution_rules.specs.Expressions.{at, PrimaryStands}
@@ -18,11 +18,11 @@ pub record PrimaryStep (context : Context) (rules : Rules) (old new : Parts) (de
     (n : ℕ) : Type 0 where
   pub extends : Extends (packages_in context) old new
   pub there : n < length new.nodes
-  pub stands : (naming : Naming) → IsOneToOne naming
-      → PrimaryStands (given_in naming context rules) (composition_of naming old declared) x
-      (at (composition_of naming new declared) n)
+  pub stands : (numbering : Numbering) → IsOneToOne numbering
+      → PrimaryStands (given_in numbering context rules) (composition_of numbering old declared) x
+      (at (composition_of numbering new declared) n)
 
 -- the error names a rule that it breaks
 abbrev pub PrimaryBreaks : Context → Rules → Parts → Named ℕ → PrimaryExpr → Error → Type 0
-PrimaryBreaks context rules g declared x e = (naming : Naming) → IsOneToOne naming
-    → PrimaryBroken (given_in naming context rules) (composition_of naming g declared) e x
+PrimaryBreaks context rules g declared x e = (numbering : Numbering) → IsOneToOne numbering
+    → PrimaryBroken (given_in numbering context rules) (composition_of numbering g declared) e x

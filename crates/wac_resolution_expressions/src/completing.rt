@@ -5,7 +5,7 @@ ghost use Rattle.wac_graph_types.specs.Names.{by_name};
 ghost use Rattle.wac_graph_types.specs.Table.{Names};
 ghost use Rattle.wac_ast_base.specs.Names.{package_name_of};
 ghost use Rattle.wac_ast_statements.specs.Expressions.{argument_of};
-ghost use Rattle.wac_resolution_errors.specs.Told.{told};
+ghost use Rattle.wac_resolution_errors.specs.ErrorModel.{error_model};
 ghost use Rattle.wac_resolution_rules.specs.Errors.{ErrorSays};
 ghost use Rattle.wac_resolution_rules.specs.Given.{rules_of};
 ghost use Rattle.wac_resolution_state.specs.Root.{numbers_of, Agrees};
@@ -40,7 +40,7 @@ fn misfitting(
     reason: Option<Reason>,
     span: SourceSpan,
 ) -> Result<Error, AllocError>
-    ensures { IfOk result (λ e. told e ≡ misfit_of «package».now.name.now name.now reason span) }
+    ensures { IfOk result (λ e. error_model e ≡ misfit_of «package».now.name.now name.now reason span) }
 {
     match reason {
         Some(source) => Ok(Error::MismatchedInstantiationArg {

@@ -6,7 +6,7 @@ ghost use Rattle.wac_graph_types.specs.Rules.{Answers};
 ghost use Rattle.wac_graph_types.specs.Scope.{Named, look_up};
 ghost use Rattle.wac_graph_types.specs.Table.{Names};
 ghost use Rattle.wac_graph.specs.Means.{means};
-ghost use Rattle.wac_graph.specs.Origin.{Naming, IsOneToOne};
+ghost use Rattle.wac_graph.specs.Origin.{Numbering, IsOneToOne};
 ghost use Rattle.wac_resolution_rules.specs.Composition.{kind_at};
 ghost use Rattle.wac_resolution_state.specs.Nodes.{composition_of};
 ghost use Rattle.wac_resolution_rules.specs.Given.{rules_of};
@@ -38,9 +38,9 @@ fn may_stand<R: Rules>(
 ) -> Result<(), Reason>
     requires wanted { Names state.now.graph.types wanted }
     requires there { node.0 < length state.now.graph.nodes }
-    ensures { (naming : Naming) (declared : Named ℕ) → IsOneToOne naming
-        → Answers result (R.passes rules.now (kind_at (composition_of naming state.now.graph declared).nodes node.0)
-        (means naming state.now.graph wanted)) }
+    ensures { (numbering : Numbering) (declared : Named ℕ) → IsOneToOne numbering
+        → Answers result (R.passes rules.now (kind_at (composition_of numbering state.now.graph declared).nodes node.0)
+        (means numbering state.now.graph wanted)) }
 {
     let types = state.graph.types();
     let kind = state.graph.kind(node);

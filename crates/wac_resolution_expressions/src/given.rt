@@ -8,8 +8,8 @@ ghost use Rattle.wac_graph_types.specs.Shape.{imports_of};
 ghost use Rattle.wac_graph_types.specs.Table.{Names};
 ghost use Rattle.wac_ast_base.specs.Names.{ident_of};
 ghost use Rattle.wac_ast_statements.specs.Expressions.{argument_name_of};
-ghost use Rattle.wac_graph.specs.Origin.{Naming};
-ghost use Rattle.wac_resolution_errors.specs.Told.{told};
+ghost use Rattle.wac_graph.specs.Origin.{Numbering};
+ghost use Rattle.wac_resolution_errors.specs.ErrorModel.{error_model};
 ghost use Rattle.wac_resolution_rules.specs.BrokenExpressions.{ArgumentBroken, IsFillNotLast};
 ghost use Rattle.wac_resolution_rules.specs.Errors.{ErrorSays};
 ghost use Rattle.wac_resolution_rules.specs.Expressions.{GivesOne, IsEmpty, name_meant};
@@ -31,7 +31,7 @@ use wac_resolution_errors::Error;
 use wac_resolution_state::{Root, State};
 
 /// Gives a node for a name for which none is given yet.
-#[tactic(auto, using(wac_resolution_state::proofs::Scopes::memory_told))]
+#[tactic(auto, using(wac_resolution_state::proofs::Scopes::memory_model))]
 fn give(
     alloc: Global,
     given: &mut IndexMap<String, NodeId>,
@@ -63,9 +63,9 @@ pub fn give_named(
 ) -> Result<(), Error>
     requires { Names state.now.graph.types (ItemKind.Component world) }
     ensures ok { OnOk result (GivesFor (by_name given.old.entries) (by_name given.new.entries)
-        (λ naming. name_meant (argument_name_of name.now) (imports_at naming state.now.graph world)) node) }
+        (λ numbering. name_meant (argument_name_of name.now) (imports_at numbering state.now.graph world)) node) }
     ensures err { ErrorSays result (λ e. IsGivenFor (by_name given.old.entries)
-        (λ naming. name_meant (argument_name_of name.now) (imports_at naming state.now.graph world))
+        (λ numbering. name_meant (argument_name_of name.now) (imports_at numbering state.now.graph world))
         (argument_name_span (argument_name_of name.now)) e) }
 {
     let import = written_name(state, world, name)?;
@@ -73,7 +73,7 @@ pub fn give_named(
 }
 
 /// Gives the node of an identifier for the import that is inferred.
-#[tactic(auto, using(wac_resolution_state::proofs::Scopes::memory_told))]
+#[tactic(auto, using(wac_resolution_state::proofs::Scopes::memory_model))]
 #[inline(never)]
 pub fn give_inferred(
     state: &State,
@@ -87,12 +87,12 @@ pub fn give_inferred(
     requires there { GivenThere state.now.graph (by_name given.old.entries) }
     ensures ok { OnOk result (Gave state.now.graph state.now.graph (by_name given.old.entries)
         (by_name given.new.entries) (numbers_of root.now.nodes)
-        (λ naming old new. (s : Given) (rest : Arguments)
-        → GivesOne s (imports_at naming state.now.graph world) rest old
+        (λ numbering old new. (s : Given) (rest : Arguments)
+        → GivesOne s (imports_at numbering state.now.graph world) rest old
         (ArgumentTree.inferred (ident_of id.now)) new)) }
-    ensures err { ErrorSays result (λ e. (naming : Naming) (s : Given) (rest : Arguments)
-        → ArgumentBroken s (imports_at naming state.now.graph world) rest
-        (giving_of naming state.now.graph (numbers_of root.now.nodes) (by_name given.old.entries)) e
+    ensures err { ErrorSays result (λ e. (numbering : Numbering) (s : Given) (rest : Arguments)
+        → ArgumentBroken s (imports_at numbering state.now.graph world) rest
+        (giving_of numbering state.now.graph (numbers_of root.now.nodes) (by_name given.old.entries)) e
         (ArgumentTree.inferred (ident_of id.now))) }
 {
     let node = root.node(state.alloc, id)?;
@@ -104,7 +104,8 @@ pub fn give_inferred(
 #[inline(never)]
 pub fn check_last(is_last: bool, span: SourceSpan) -> Result<(), Error>
     ensures ok { OnOk result ((rest : Arguments) → is_none rest ≡ is_last → IsEmpty rest) }
-    ensures err { IfErr result (λ e. (rest : Arguments) → is_none rest ≡ is_last → IsFillNotLast rest span (told e)) }
+    ensures err { IfErr result (λ e. (rest : Arguments) → is_none rest ≡ is_last
+        → IsFillNotLast rest span (error_model e)) }
 {
     if is_last {
         Ok(())

@@ -8,7 +8,7 @@ ghost use Rattle.wac_graph_types.specs.Table.{Names};
 ghost use Rattle.wac_graph.specs.declared.node.NodeId.{NodeId};
 ghost use Rattle.wac_graph.specs.Graph.{Parts};
 ghost use Rattle.wac_graph.specs.Means.{declared_count};
-ghost use Rattle.wac_graph.specs.Origin.{Naming};
+ghost use Rattle.wac_graph.specs.Origin.{Numbering};
 ghost use Rattle.wac_graph.specs.Package.{Key, HeldPackage};
 ghost use Rattle.wac_graph.specs.Packages.{contents_in};
 ghost use Rattle.wac_resolution_state.specs.declared.root.Root.{Root};
@@ -39,12 +39,12 @@ pub fn extending_keeps()
     ensures given { (packages : List (Key × PackageParts)) (old new : Parts)
         → Extends packages old new → (all : Named NodeId) → GivenThere old all → GivenThere new all }
     ensures imports { (packages : List (Key × PackageParts)) (old new : Parts) → Extends packages old new
-        → (w : WorldId) → Names old.types (kinds.Component w) → (naming : Naming)
-        → imports_at naming new w ≡ imports_at naming old w }
+        → (w : WorldId) → Names old.types (kinds.Component w) → (numbering : Numbering)
+        → imports_at numbering new w ≡ imports_at numbering old w }
     ensures contents { (packages : List (Key × PackageParts)) (old new : Parts) → Extends packages old new
-        → AllSupplied packages old → (i : ℕ) (p : HeldPackage) → slice_get old.packages i ≡ Some p → (naming : Naming)
-        → contents_in naming new p ≡ contents_in naming old p }
+        → AllSupplied packages old → (i : ℕ) (p : HeldPackage) → slice_get old.packages i ≡ Some p
+        → (numbering : Numbering) → contents_in numbering new p ≡ contents_in numbering old p }
     ensures composition { (old new : Parts) → Expands old new → NodesStand old → declared_count new ≡ declared_count old
-        → (naming : Naming) (declared : Named ℕ)
-        → composition_of naming new declared ≡ composition_of naming old declared }
+        → (numbering : Numbering) (declared : Named ℕ)
+        → composition_of numbering new declared ≡ composition_of numbering old declared }
 {}

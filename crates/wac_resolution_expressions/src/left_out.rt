@@ -5,7 +5,7 @@ ghost use Rattle.wac_graph_types.specs.Names.{by_name};
 ghost use Rattle.wac_graph_types.specs.Table.{Names};
 ghost use Rattle.wac_ast_base.specs.Names.{package_name_of};
 ghost use Rattle.wac_ast_statements.specs.Expressions.{argument_of};
-ghost use Rattle.wac_graph.specs.Origin.{Naming};
+ghost use Rattle.wac_graph.specs.Origin.{Numbering};
 ghost use Rattle.wac_resolution_rules.specs.Errors.{ErrorSays};
 ghost use Rattle.wac_resolution_rules.specs.Expressions.{is_fill as fills, has_fill as fill_among, left_out as left_among, IsComplete};
 ghost use Rattle.wac_resolution_expressions.specs.Arguments.{given_nodes, first_name};
@@ -49,9 +49,10 @@ fn left_out<'x>(
     given: &IndexMap<String, NodeId>,
 ) -> Option<&'x str>
     requires { Names state.now.graph.types (ItemKind.Component world) }
-    ensures { (naming : Naming)
+    ensures { (numbering : Numbering)
         → option_map (λ s. s.now) result
-        ≡ first_name (left_among (imports_at naming state.now.graph world) (given_nodes (by_name given.now.entries))) }
+        ≡ first_name (left_among (imports_at numbering state.now.graph world)
+        (given_nodes (by_name given.now.entries))) }
 {
     let types = state.graph.types();
     match types.imports(world) {
@@ -69,8 +70,8 @@ pub fn check_complete(
     given: &IndexMap<String, NodeId>,
 ) -> Result<(), Error>
     requires world { Names state.now.graph.types (ItemKind.Component world) }
-    ensures ok { OnOk result ((naming : Naming)
-        → IsComplete (imports_at naming state.now.graph world)
+    ensures ok { OnOk result ((numbering : Numbering)
+        → IsComplete (imports_at numbering state.now.graph world)
         (fill_among (arguments_from (map argument_of arguments.now))) (given_nodes (by_name given.now.entries))) }
     ensures err { ErrorSays result (λ e. IsIncomplete state.now.graph world (package_name_of «package».now)
         (arguments_from (map argument_of arguments.now)) (given_nodes (by_name given.now.entries)) e) }

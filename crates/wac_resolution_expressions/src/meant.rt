@@ -8,7 +8,7 @@ ghost use Rattle.wac_graph_types.specs.Shape.{imports_of, items_mean};
 ghost use Rattle.wac_graph_types.specs.Table.{Names};
 ghost use Rattle.wac_ast_statements.specs.Expressions.{argument_name_of};
 ghost use Rattle.wac_graph.specs.Means.{entry_means};
-ghost use Rattle.wac_graph.specs.Origin.{Naming};
+ghost use Rattle.wac_graph.specs.Origin.{Numbering};
 ghost use Rattle.wac_resolution_rules.specs.Expressions.{name_meant, if_imported, name_inferred};
 ghost use Rattle.wac_resolution_rules.specs.Find.{find_name as found_name};
 ghost use Rattle.wac_resolution_rules.specs.Nodes.{node_at};
@@ -47,9 +47,9 @@ pub(crate) fn written_import<'x>(
     name: &'x InstantiationArgumentName<'_>,
 ) -> &'x str
     requires { Names state.now.graph.types (ItemKind.Component world) }
-    ensures { (naming : Naming)
+    ensures { (numbering : Numbering)
         → result.now ≡ name_meant (argument_name_of name.now)
-        (imports_of (entry_means naming state.now.graph world.0)) }
+        (imports_of (entry_means numbering state.now.graph world.0)) }
 {
     let types = state.graph.types();
     let imports = types.imports(world);
@@ -63,9 +63,9 @@ pub fn written_name(
     name: &InstantiationArgumentName<'_>,
 ) -> Result<String, AllocError>
     requires { Names state.now.graph.types (ItemKind.Component world) }
-    ensures { IfOk result (λ s. (naming : Naming)
+    ensures { IfOk result (λ s. (numbering : Numbering)
         → string_bytes s ≡ name_meant (argument_name_of name.now)
-        (imports_of (entry_means naming state.now.graph world.0))) }
+        (imports_of (entry_means numbering state.now.graph world.0))) }
 {
     String::from_str(state.alloc, written_import(state, world, name))
 }
@@ -129,9 +129,9 @@ pub(crate) fn inferred_import<'x>(
 ) -> &'x str
     requires named { Names state.now.graph.types (ItemKind.Component world) }
     requires there { node.0 < length state.now.graph.nodes }
-    ensures { (naming : Naming) (declared : Named ℕ)
-        → option_map (name_inferred (imports_of (entry_means naming state.now.graph world.0)) name.now)
-        (node_at (composition_of naming state.now.graph declared) node.0) ≡ Some result.now }
+    ensures { (numbering : Numbering) (declared : Named ℕ)
+        → option_map (name_inferred (imports_of (entry_means numbering state.now.graph world.0)) name.now)
+        (node_at (composition_of numbering state.now.graph declared) node.0) ≡ Some result.now }
 {
     let types = state.graph.types();
     match types.imports(world) {
@@ -153,9 +153,9 @@ pub fn inferred_name(
 ) -> Result<String, AllocError>
     requires named { Names state.now.graph.types (ItemKind.Component world) }
     requires there { node.0 < length state.now.graph.nodes }
-    ensures { IfOk result (λ s. (naming : Naming) (declared : Named ℕ)
-        → option_map (name_inferred (imports_of (entry_means naming state.now.graph world.0)) name.now)
-        (node_at (composition_of naming state.now.graph declared) node.0) ≡ Some (string_bytes s)) }
+    ensures { IfOk result (λ s. (numbering : Numbering) (declared : Named ℕ)
+        → option_map (name_inferred (imports_of (entry_means numbering state.now.graph world.0)) name.now)
+        (node_at (composition_of numbering state.now.graph declared) node.0) ≡ Some (string_bytes s)) }
 {
     let import = inferred_import(state, world, name, node);
     let copy = String::from_str(state.alloc, import)?;

@@ -4,7 +4,7 @@ ghost use Rattle.wac_ast_grammar.specs.Tree.{arguments_from};
 ghost use Rattle.wac_graph_types.specs.Scope.{look_up};
 ghost use Rattle.wac_graph_types.specs.Table.{Names};
 ghost use Rattle.wac_ast_statements.specs.Expressions.{argument_of};
-ghost use Rattle.wac_graph.specs.Origin.{Naming};
+ghost use Rattle.wac_graph.specs.Origin.{Numbering};
 ghost use Rattle.wac_resolution_rules.specs.BrokenExpressions.{argument_place, own_places as places_of_own};
 ghost use Rattle.wac_resolution_state.specs.Root.{composed, Agrees};
 ghost use Rattle.wac_resolution_expressions.specs.Spreads.{imports_at};
@@ -32,9 +32,9 @@ fn place_named<'x>(
 ) -> Option<SourceSpan>
     requires agrees { Agrees state.now.graph root.now }
     requires world { Names state.now.graph.types (ItemKind.Component world) }
-    ensures { (naming : Naming)
-        → look_up name.now (argument_place (composed naming state.now.graph root.now)
-        (imports_at naming state.now.graph world) (argument_of argument.now)) ≡ result }
+    ensures { (numbering : Numbering)
+        → look_up name.now (argument_place (composed numbering state.now.graph root.now)
+        (imports_at numbering state.now.graph world) (argument_of argument.now)) ≡ result }
 {
     match own_place(argument, state, root, world) {
         Some(place) => if_named(place.0, place.1, name),
@@ -52,9 +52,9 @@ pub fn own_places<'x>(
 ) -> Option<SourceSpan>
     requires agrees { Agrees state.now.graph root.now }
     requires world { Names state.now.graph.types (ItemKind.Component world) }
-    ensures { (naming : Naming)
-        → look_up name.now (places_of_own (composed naming state.now.graph root.now)
-        (imports_at naming state.now.graph world) (arguments_from (map argument_of arguments.now))) ≡ result }
+    ensures { (numbering : Numbering)
+        → look_up name.now (places_of_own (composed numbering state.now.graph root.now)
+        (imports_at numbering state.now.graph world) (arguments_from (map argument_of arguments.now))) ≡ result }
 {
     for argument in arguments {
         match place_named(argument, state, root, world, name) {

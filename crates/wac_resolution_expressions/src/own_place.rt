@@ -4,7 +4,7 @@ ghost use Rattle.wac_ast_grammar.specs.Tree.{InstantiationArgument as ArgumentTr
 ghost use Rattle.wac_graph_types.specs.Table.{Names};
 ghost use Rattle.wac_ast_base.specs.Names.{ident_of};
 ghost use Rattle.wac_ast_statements.specs.Expressions.{argument_of};
-ghost use Rattle.wac_graph.specs.Origin.{Naming};
+ghost use Rattle.wac_graph.specs.Origin.{Numbering};
 ghost use Rattle.wac_resolution_rules.specs.BrokenExpressions.{argument_place};
 ghost use Rattle.wac_resolution_state.specs.Root.{composed, Agrees};
 ghost use Rattle.wac_resolution_expressions.specs.AtMostOne.{at_most_one};
@@ -26,8 +26,8 @@ fn inferred_place<'x>(
 ) -> Option<(&'x str, SourceSpan)>
     requires agrees { Agrees state.now.graph root.now }
     requires world { Names state.now.graph.types (ItemKind.Component world) }
-    ensures { (naming : Naming)
-        → argument_place (composed naming state.now.graph root.now) (imports_at naming state.now.graph world)
+    ensures { (numbering : Numbering)
+        → argument_place (composed numbering state.now.graph root.now) (imports_at numbering state.now.graph world)
         (ArgumentTree.inferred (ident_of id.now)) ≡ at_most_one (option_map (λ p. (p.0.now, p.1)) result) }
 {
     match root.nodes.find(id.string) {
@@ -48,8 +48,8 @@ pub fn own_place<'x>(
 ) -> Option<(&'x str, SourceSpan)>
     requires agrees { Agrees state.now.graph root.now }
     requires world { Names state.now.graph.types (ItemKind.Component world) }
-    ensures { (naming : Naming)
-        → argument_place (composed naming state.now.graph root.now) (imports_at naming state.now.graph world)
+    ensures { (numbering : Numbering)
+        → argument_place (composed numbering state.now.graph root.now) (imports_at numbering state.now.graph world)
         (argument_of argument.now) ≡ at_most_one (option_map (λ p. (p.0.now, p.1)) result) }
 {
     match argument {

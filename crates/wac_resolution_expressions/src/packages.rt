@@ -2,9 +2,9 @@
 ghost use Rattle.std.specs.Prelude.{◌≡◌, IfOk, MatchOption};
 ghost use Rattle.std.specs.Str.{bytes_eq};
 ghost use Rattle.wac_ast_base.specs.Names.{package_name_of};
-ghost use Rattle.wac_graph.specs.Origin.{Naming};
+ghost use Rattle.wac_graph.specs.Origin.{Numbering};
 ghost use Rattle.wac_resolution_errors.specs.Error.{unknown_package};
-ghost use Rattle.wac_resolution_errors.specs.Told.{told};
+ghost use Rattle.wac_resolution_errors.specs.ErrorModel.{error_model};
 ghost use Rattle.wac_resolution_rules.specs.BrokenExpressions.{IsUnknownPackage};
 ghost use Rattle.wac_resolution_rules.specs.Errors.{ErrorSays};
 ghost use Rattle.wac_resolution_rules.specs.Given.{Rules, key_named};
@@ -40,7 +40,7 @@ fn is_own(context: &Context<'_>, package: &PackageName<'_>) -> bool
 #[cold]
 #[inline(never)]
 fn unknown(alloc: Global, package: &PackageName<'_>) -> Result<Error, AllocError>
-    ensures { IfOk result (λ e. told e ≡ unknown_package «package».now.name.now «package».now.span) }
+    ensures { IfOk result (λ e. error_model e ≡ unknown_package «package».now.name.now «package».now.span) }
 {
     Ok(Error::UnknownPackage {
         name: String::from_str(alloc, package.name)?,
@@ -75,8 +75,8 @@ pub fn instantiable(
     requires supplied { AllSupplied (packages_in context.now) state.old.graph }
     ensures ok { IfOk result (λ p. IsInstantiable context.now state.old.graph state.new.graph
         (package_name_of «package».now) p) }
-    ensures err { ErrorSays result (λ e. (naming : Naming) (rules : Rules)
-        → IsUnknownPackage (given_in naming context.now rules) (package_name_of «package».now) e) }
+    ensures err { ErrorSays result (λ e. (numbering : Numbering) (rules : Rules)
+        → IsUnknownPackage (given_in numbering context.now rules) (package_name_of «package».now) e) }
 {
     if is_own(context, package) {
         return Err(unknown(state.alloc, package)?);

@@ -6,7 +6,7 @@ ghost use Rattle.wac_graph_types.specs.Table.{Names};
 ghost use Rattle.wac_ast_base.specs.Names.{ident_of};
 ghost use Rattle.wac_ast_statements.specs.Expressions.{argument_of};
 ghost use Rattle.wac_graph.specs.Graph.{export_kind};
-ghost use Rattle.wac_graph.specs.Origin.{Naming};
+ghost use Rattle.wac_graph.specs.Origin.{Numbering};
 ghost use Rattle.wac_resolution_rules.specs.BrokenExpressions.{argument_places, spread_places as places_of_spread};
 ghost use Rattle.wac_resolution_rules.specs.Expressions.{spread_of, spreads_of};
 ghost use Rattle.wac_resolution_rules.specs.Nodes.{instance_at};
@@ -25,9 +25,9 @@ use wac_resolution_state::{Root, State};
 /// The span, if the node is an instance that exports the name.
 fn if_exported(state: &State, node: NodeId, name: &str, span: SourceSpan) -> Option<SourceSpan>
     requires { node.0 < length state.now.graph.nodes }
-    ensures { (naming : Naming) (declared : Named ℕ)
+    ensures { (numbering : Numbering) (declared : Named ℕ)
         → look_up name.now (exports_at span
-        (instance_at (composition_of naming state.now.graph declared) node.0)) ≡ result }
+        (instance_at (composition_of numbering state.now.graph declared) node.0)) ≡ result }
 {
     // Its contract says that the table is sound, and what its entries mean.
     let _types = state.graph.types();
@@ -43,8 +43,8 @@ fn if_exported(state: &State, node: NodeId, name: &str, span: SourceSpan) -> Opt
 /// The place of a spread, if it is of an instance that exports the name.
 fn spread_place(state: &State, root: &Root<'_>, id: &Ident<'_>, name: &str) -> Option<SourceSpan>
     requires { Agrees state.now.graph root.now }
-    ensures { (naming : Naming)
-        → look_up name.now (places_of_spread (composed naming state.now.graph root.now) (ident_of id.now)) ≡ result }
+    ensures { (numbering : Numbering)
+        → look_up name.now (places_of_spread (composed numbering state.now.graph root.now) (ident_of id.now)) ≡ result }
 {
     match root.nodes.find(id.string) {
         Some(node) => if_exported(state, node, name, id.span),
@@ -60,8 +60,8 @@ fn if_spread(
     name: &str,
 ) -> Option<SourceSpan>
     requires { Agrees state.now.graph root.now }
-    ensures { (naming : Naming)
-        → look_up name.now (flat_map (places_of_spread (composed naming state.now.graph root.now))
+    ensures { (numbering : Numbering)
+        → look_up name.now (flat_map (places_of_spread (composed numbering state.now.graph root.now))
         (spread_of (argument_of argument.now))) ≡ result }
 {
     match argument {
@@ -78,8 +78,8 @@ fn spread_places(
     name: &str,
 ) -> Option<SourceSpan>
     requires { Agrees state.now.graph root.now }
-    ensures { (naming : Naming)
-        → look_up name.now (flat_map (places_of_spread (composed naming state.now.graph root.now))
+    ensures { (numbering : Numbering)
+        → look_up name.now (flat_map (places_of_spread (composed numbering state.now.graph root.now))
         (spreads_of (arguments_from (map argument_of arguments.now)))) ≡ result }
 {
     for argument in arguments {
@@ -101,9 +101,9 @@ pub fn place(
 ) -> Option<SourceSpan>
     requires agrees { Agrees state.now.graph root.now }
     requires world { Names state.now.graph.types (ItemKind.Component world) }
-    ensures { (naming : Naming)
-        → look_up name.now (argument_places (composed naming state.now.graph root.now)
-        (imports_at naming state.now.graph world) (arguments_from (map argument_of arguments.now))) ≡ result }
+    ensures { (numbering : Numbering)
+        → look_up name.now (argument_places (composed numbering state.now.graph root.now)
+        (imports_at numbering state.now.graph world) (arguments_from (map argument_of arguments.now))) ≡ result }
 {
     match own_places(arguments, state, root, world, name) {
         Some(span) => Some(span),

@@ -6,9 +6,9 @@ ghost use Rattle.wac_graph_types.specs.Steps.{Steps, Fails};
 ghost use Rattle.wac_graph_types.specs.Table.{Names};
 ghost use Rattle.wac_ast_base.specs.Names.{ident_of};
 ghost use Rattle.wac_ast_statements.specs.Expressions.{argument_of};
-ghost use Rattle.wac_graph.specs.Origin.{Naming};
+ghost use Rattle.wac_graph.specs.Origin.{Numbering};
 ghost use Rattle.wac_resolution_errors.specs.Error.{spread_instantiation_no_match};
-ghost use Rattle.wac_resolution_errors.specs.Told.{told};
+ghost use Rattle.wac_resolution_errors.specs.ErrorModel.{error_model};
 ghost use Rattle.wac_resolution_rules.specs.Expressions.{Spreads, spread_of, spreads_of};
 ghost use Rattle.wac_resolution_rules.specs.BrokenExpressions.{SpreadBroken};
 ghost use Rattle.wac_resolution_rules.specs.Errors.{ErrorSays};
@@ -33,7 +33,7 @@ fn check_more(
 ) -> Result<(), Error>
     ensures ok { OnOk result (length given.now.entries ≢ before) }
     ensures same { IfErr result (λ _. length given.now.entries ≡ before) }
-    ensures err { IfErr result (λ e. told e ≡ spread_instantiation_no_match span) }
+    ensures err { IfErr result (λ e. error_model e ≡ spread_instantiation_no_match span) }
 {
     if given.len() == before {
         return Err(Error::SpreadInstantiationNoMatch { span });
@@ -42,7 +42,7 @@ fn check_more(
 }
 
 /// Gives exports of an instance for the imports for which nothing is given yet. It gives something.
-#[tactic(auto, using(wac_resolution_state::proofs::Scopes::memory_told))]
+#[tactic(auto, using(wac_resolution_state::proofs::Scopes::memory_model))]
 fn spread(
     state: &mut State,
     root: &Root<'_>,
@@ -55,10 +55,10 @@ fn spread(
     requires world { Names state.old.graph.types (ItemKind.Component world) }
     ensures ok { OnOk result (Gave state.old.graph state.new.graph (by_name given.old.entries)
         (by_name given.new.entries) (numbers_of root.now.nodes)
-        (λ naming old new. Spreads (imports_at naming state.old.graph world) old (ident_of id.now) new)) }
-    ensures err { ErrorSays result (λ e. (naming : Naming) (before : List IdentTree)
-        → SpreadBroken (imports_at naming state.old.graph world) e
-        (giving_of naming state.old.graph (numbers_of root.now.nodes) (by_name given.old.entries))
+        (λ numbering old new. Spreads (imports_at numbering state.old.graph world) old (ident_of id.now) new)) }
+    ensures err { ErrorSays result (λ e. (numbering : Numbering) (before : List IdentTree)
+        → SpreadBroken (imports_at numbering state.old.graph world) e
+        (giving_of numbering state.old.graph (numbers_of root.now.nodes) (by_name given.old.entries))
         before (ident_of id.now)) }
 {
     let node = root.node(state.alloc, id)?;
@@ -82,12 +82,12 @@ fn spread_argument(
     requires world { Names state.old.graph.types (ItemKind.Component world) }
     ensures ok { OnOk result (Gave state.old.graph state.new.graph (by_name given.old.entries)
         (by_name given.new.entries) (numbers_of root.now.nodes)
-        (λ naming old new. Steps (Spreads (imports_at naming state.old.graph world)) old
+        (λ numbering old new. Steps (Spreads (imports_at numbering state.old.graph world)) old
         (spread_of (argument_of argument.now)) new)) }
-    ensures err { ErrorSays result (λ e. (naming : Naming)
-        → Fails (Spreads (imports_at naming state.old.graph world))
-        (SpreadBroken (imports_at naming state.old.graph world) e)
-        (giving_of naming state.old.graph (numbers_of root.now.nodes) (by_name given.old.entries))
+    ensures err { ErrorSays result (λ e. (numbering : Numbering)
+        → Fails (Spreads (imports_at numbering state.old.graph world))
+        (SpreadBroken (imports_at numbering state.old.graph world) e)
+        (giving_of numbering state.old.graph (numbers_of root.now.nodes) (by_name given.old.entries))
         (spread_of (argument_of argument.now))) }
 {
     match argument {
@@ -112,12 +112,12 @@ pub fn spreads(
     requires world { Names state.old.graph.types (ItemKind.Component world) }
     ensures ok { OnOk result (Gave state.old.graph state.new.graph (by_name given.old.entries)
         (by_name given.new.entries) (numbers_of root.now.nodes)
-        (λ naming old new. Steps (Spreads (imports_at naming state.old.graph world)) old
+        (λ numbering old new. Steps (Spreads (imports_at numbering state.old.graph world)) old
         (spreads_of (arguments_from (map argument_of arguments.now))) new)) }
-    ensures err { ErrorSays result (λ e. (naming : Naming)
-        → Fails (Spreads (imports_at naming state.old.graph world))
-        (SpreadBroken (imports_at naming state.old.graph world) e)
-        (giving_of naming state.old.graph (numbers_of root.now.nodes) (by_name given.old.entries))
+    ensures err { ErrorSays result (λ e. (numbering : Numbering)
+        → Fails (Spreads (imports_at numbering state.old.graph world))
+        (SpreadBroken (imports_at numbering state.old.graph world) e)
+        (giving_of numbering state.old.graph (numbers_of root.now.nodes) (by_name given.old.entries))
         (spreads_of (arguments_from (map argument_of arguments.now)))) }
 {
     for argument in arguments {

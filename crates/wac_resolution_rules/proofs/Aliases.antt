@@ -17,17 +17,17 @@ use Rattle.wac_resolution_rules.proofs.Names.{eq_other_way, cond_none}
 pub record Stays (P : List Node → Type 0) : Type 0 where
   pub keeps : Keeps P
   pub other : (ns : List Node) (n : Node) → (IsAlias n.form → ⊥) → P ns → P (ns ++ n ∷ [])
-  pub naming : (ns : List Node) (i : ℕ) (name : List ℕ) → P ns → P (named_at ns i name)
+  pub numbering : (ns : List Node) (i : ℕ) (name : List ℕ) → P ns → P (named_at ns i name)
 
 pub stays_goes : (P : List Node → Type 0) → Stays P → (g : Given) (old : Composition) (x : Statement) (new : Composition) → P old.nodes → StatementStep g old x new → P new.nodes
 stays_goes P s g old (Statement.import_statement x) new h p =
-    subst (λ (c : Composition). P c.nodes) (sym p.6) (s.naming (with_node (with_resources old p.1) (imported (name_imported x p.0)) (promoted p.0)).nodes (next_of old) x.id.string (s.other old.nodes _ (λ f. f) h))
+    subst (λ (c : Composition). P c.nodes) (sym p.6) (s.numbering (with_node (with_resources old p.1) (imported (name_imported x p.0)) (promoted p.0)).nodes (next_of old) x.id.string (s.other old.nodes _ (λ f. f) h))
 stays_goes P s g old (Statement.let_statement x) new h p =
-    subst (λ (c : Composition). P c.nodes) (sym p.3) (s.naming p.0.composition.nodes p.0.node x.id.string (keeps_stands P s.keeps g old x.expr p.0 h p.1))
+    subst (λ (c : Composition). P c.nodes) (sym p.3) (s.numbering p.0.composition.nodes p.0.node x.id.string (keeps_stands P s.keeps g old x.expr p.0 h p.1))
 stays_goes P s g old (Statement.export_statement x) new h p = keeps_by P s.keeps g p.0 x.options new (keeps_stands P s.keeps g old x.expr p.0 h p.1) p.2
 stays_goes P s g old (Statement.type_statement x) new h p =
     let d = declares_what g.context old x new p in
-    subst (λ (c : Composition). P c.nodes) (sym d.2.2) (s.naming (with_node (with_resources old d.1) definition d.0).nodes (next_of old) (identifier_of x).string (s.other old.nodes _ (λ f. f) h))
+    subst (λ (c : Composition). P c.nodes) (sym d.2.2) (s.numbering (with_node (with_resources old d.1) definition d.0).nodes (next_of old) (identifier_of x).string (s.other old.nodes _ (λ f. f) h))
 
 pub stays_composes : (P : List Node → Type 0) → Stays P → (g : Given) (xs : List Statement) (old new : Composition) → P old.nodes → Composes g old xs new → P new.nodes
 stays_composes P s g [] old new h p = subst (λ (c : Composition). P c.nodes) (sym p) h
@@ -116,7 +116,7 @@ stays_once : Stays AliasesOnce
 stays_once = record {
   keeps = record { alias = once_alias; instance = λ c key k arguments h. once_and c.nodes _ (each_not c.nodes (instantiated key) (λ f. f)) h };
   other = λ ns n other h. once_and ns n (each_not ns n.form other) h;
-  naming = once_named;
+  numbering = once_named;
 }
 
 -- each alias occurs once

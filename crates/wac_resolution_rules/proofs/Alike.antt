@@ -1,5 +1,5 @@
 -- Layout carries no meaning.
-use Rattle.wac_resolution_rules.proofs.Common.{◌≡◌, ℕ, List, sym, ap, ◌∙◌, subst, ◌↔◌, IsUtf8, Key, Naming, Document, Keep, bare_document, plain_document}
+use Rattle.wac_resolution_rules.proofs.Common.{◌≡◌, ℕ, List, sym, ap, ◌∙◌, subst, ◌↔◌, IsUtf8, Key, Numbering, Document, Keep, bare_document, plain_document}
 use Rattle.wac_graph_types.specs.Package.{PackageParts}
 use Rattle.wac_ast_grammar.specs.TextTree.{IsTreeOf}
 use Rattle.wac_ast_grammar.specs.Spelled.{DocumentSpelled}
@@ -13,13 +13,13 @@ use Rattle.wac_resolution_rules.proofs.StatementsPlain.{describes_plain}
 both_ways : {A B : Type 0} → A ≡ B → A ↔ B
 both_ways e = (subst (λ (T : Type 0). T) e, subst (λ (T : Type 0). T) (sym e))
 
-same : (naming : Naming) (packages : List (Key × PackageParts)) (rules : Rules) (a b : Document) (c : Composition) → plain_document a ≡ plain_document b
-    → Describes (given_to naming packages rules a) a c ≡ Describes (given_to naming packages rules b) b c
-same naming packages rules a b c e =
-    sym (describes_plain (given_to naming packages rules a) a c) ∙ ap (λ (d : Document). Describes (given_to naming packages rules d) d c) e ∙ describes_plain (given_to naming packages rules b) b c
+same : (numbering : Numbering) (packages : List (Key × PackageParts)) (rules : Rules) (a b : Document) (c : Composition) → plain_document a ≡ plain_document b
+    → Describes (given_to numbering packages rules a) a c ≡ Describes (given_to numbering packages rules b) b c
+same numbering packages rules a b c e =
+    sym (describes_plain (given_to numbering packages rules a) a c) ∙ ap (λ (d : Document). Describes (given_to numbering packages rules d) d c) e ∙ describes_plain (given_to numbering packages rules b) b c
 
 pub plain_alike : (a b : Document) → plain_document a ≡ plain_document b → DescribeAlike a b
-plain_alike a b e naming packages rules c = both_ways (same naming packages rules a b c e)
+plain_alike a b e numbering packages rules c = both_ways (same numbering packages rules a b c e)
 
 pub bare_alike : (keep other : Keep) (source text : List ℕ) (a b : Document) → DocumentSpelled source a → DocumentSpelled text b → bare_document keep source a ≡ bare_document other text b → DescribeAlike a b
 bare_alike keep other source text a b h k e = plain_alike a b (plain_of_bare keep other source text a b h k e)

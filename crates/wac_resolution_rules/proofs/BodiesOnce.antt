@@ -1,5 +1,5 @@
 -- What paths name, what items of a body declare, and what is included, is unique.
-use Rattle.wac_resolution_rules.proofs.Common.{◌≡◌, ℕ, List, [], ◌∷◌, ◌++◌, Bool, true, false, refl, sym, ◌∙◌, ap, subst, ExternKind, func, Meaning, Scope, Steps, kind_of, promoted, entry_of, imports_of, exports_of, Naming, resource_entry, Ident, PackagePath, UsePath, WorldRef, ResourceMethod, ItemTypeDecl}
+use Rattle.wac_resolution_rules.proofs.Common.{◌≡◌, ℕ, List, [], ◌∷◌, ◌++◌, Bool, true, false, refl, sym, ◌∙◌, ap, subst, ExternKind, func, Meaning, Scope, Steps, kind_of, promoted, entry_of, imports_of, exports_of, Numbering, resource_entry, Ident, PackagePath, UsePath, WorldRef, ResourceMethod, ItemTypeDecl}
 use Rattle.wac_resolution_rules.specs.Types.{first_params}
 use Rattle.wac_resolution_rules.specs.Declarations.{in_body}
 use Rattle.wac_resolution_rules.specs.Paths.{Context, segments_of, IsMember, LeadsFrom, LeadsTo, UseNames, WorldNames}
@@ -46,15 +46,15 @@ declares_once : (side : ExternKind) (old : Body) (x : Ident) (m n : Meaning) (i 
 declares_once side old x m n i j a b e d p q =
     p.1 ∙ ap (λ k. with_type side (with_count old k) x.string m) d ∙ ap (with_type side (with_count old j) x.string) e ∙ sym q.1
 
-pub item_once : (naming : Naming) (side : ExternKind) → IsOnce (HasItem naming side)
-item_once naming side old (ItemTypeDecl.resource d) a b p q =
-    steps_once (HasMethod side d.id.string (resource_entry naming old.resources d.id.string)) (method_once side d.id.string (resource_entry naming old.resources d.id.string)) (with_resource naming side old d.id.string) d.methods a b p.1 q.1
-item_once naming side old (ItemTypeDecl.variant d) a b p q = declares_once side old d.id p.0 q.0 old.resources old.resources a b (variant_once old.scope d p.0 q.0 p.1 q.1) refl p.2 q.2
-item_once naming side old (ItemTypeDecl.record_decl d) a b p q = declares_once side old d.id p.0 q.0 old.resources old.resources a b (record_once old.scope d p.0 q.0 p.1 q.1) refl p.2 q.2
-item_once naming side old (ItemTypeDecl.flags d) a b p q = declares_once side old d.id p.0 q.0 old.resources old.resources a b (flags_once d p.0 q.0 p.1 q.1) refl p.2 q.2
-item_once naming side old (ItemTypeDecl.enum d) a b p q = declares_once side old d.id p.0 q.0 old.resources old.resources a b (enum_once d p.0 q.0 p.1 q.1) refl p.2 q.2
-item_once naming side old (ItemTypeDecl.alias d) a b p q =
-    let e = alias_once (in_body naming) old.scope old.resources d.id.string d.kind p.0 q.0 p.1 q.1 p.2 q.2 in
+pub item_once : (numbering : Numbering) (side : ExternKind) → IsOnce (HasItem numbering side)
+item_once numbering side old (ItemTypeDecl.resource d) a b p q =
+    steps_once (HasMethod side d.id.string (resource_entry numbering old.resources d.id.string)) (method_once side d.id.string (resource_entry numbering old.resources d.id.string)) (with_resource numbering side old d.id.string) d.methods a b p.1 q.1
+item_once numbering side old (ItemTypeDecl.variant d) a b p q = declares_once side old d.id p.0 q.0 old.resources old.resources a b (variant_once old.scope d p.0 q.0 p.1 q.1) refl p.2 q.2
+item_once numbering side old (ItemTypeDecl.record_decl d) a b p q = declares_once side old d.id p.0 q.0 old.resources old.resources a b (record_once old.scope d p.0 q.0 p.1 q.1) refl p.2 q.2
+item_once numbering side old (ItemTypeDecl.flags d) a b p q = declares_once side old d.id p.0 q.0 old.resources old.resources a b (flags_once d p.0 q.0 p.1 q.1) refl p.2 q.2
+item_once numbering side old (ItemTypeDecl.enum d) a b p q = declares_once side old d.id p.0 q.0 old.resources old.resources a b (enum_once d p.0 q.0 p.1 q.1) refl p.2 q.2
+item_once numbering side old (ItemTypeDecl.alias d) a b p q =
+    let e = alias_once (in_body numbering) old.scope old.resources d.id.string d.kind p.0 q.0 p.1 q.1 p.2 q.2 in
     declares_once side old d.id p.0 q.0 p.1 q.1 a b e.0 e.1 p.3 q.3
 
 -- ---- use

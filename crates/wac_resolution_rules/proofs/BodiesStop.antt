@@ -1,5 +1,5 @@
 -- A path or an item of a body that breaks a rule resolves to nothing.
-use Rattle.wac_resolution_rules.proofs.Common.{◌≡◌, ◌⊎◌, inl, inr, ℕ, List, [], ◌∷◌, Some, None, Bool, true, false, sym, ◌∙◌, ap, subst, option_map, Span, ExternKind, Meaning, Named, Scope, IsFresh, Steps, Fails, IsA, is_interface_form, is_resource_or_value_form, promoted, Naming, resource_entry, Contents, Ident, PackagePath, UsePath, ResourceMethod, ItemTypeDecl, UseItem, Use, Error}
+use Rattle.wac_resolution_rules.proofs.Common.{◌≡◌, ◌⊎◌, inl, inr, ℕ, List, [], ◌∷◌, Some, None, Bool, true, false, sym, ◌∙◌, ap, subst, option_map, Span, ExternKind, Meaning, Named, Scope, IsFresh, Steps, Fails, IsA, is_interface_form, is_resource_or_value_form, promoted, Numbering, resource_entry, Contents, Ident, PackagePath, UsePath, ResourceMethod, ItemTypeDecl, UseItem, Use, Error}
 use Rattle.wac_graph_types.specs.declared.kind.FuncKind.TheVariants as funcs
 use Rattle.wac_resolution_rules.specs.Types.{first_params}
 use Rattle.wac_resolution_rules.specs.Declarations.{in_body}
@@ -68,22 +68,22 @@ method_stops side resource entry e old before (ResourceMethod.method x) new (inr
 
 -- ---- declarations of types in a body
 
-pub item_stops : (naming : Naming) (of : Owner) (side : ExternKind) (places : Named Span) (old : Body) (d : ItemTypeDecl) (e : Error) (new : Body) → ItemBroken naming of side places old d e → HasItem naming side old d new → ⊥
-item_stops naming of side places old (ItemTypeDecl.resource d) e new (inl b) q = name_stops of side places old d.id e b q.0
-item_stops naming of side places old (ItemTypeDecl.resource d) e new (inr b) q =
-    fails_stop (HasMethod side d.id.string (resource_entry naming old.resources d.id.string)) (MethodBroken side d.id.string (resource_entry naming old.resources d.id.string) e)
-    (method_once side d.id.string (resource_entry naming old.resources d.id.string)) (method_stops side d.id.string (resource_entry naming old.resources d.id.string) e)
-    (with_resource naming side old d.id.string) d.methods new b.2 q.1
-item_stops naming of side places old (ItemTypeDecl.variant d) e new (inl b) q = variant_stops old.scope d e q.0 b q.1
-item_stops naming of side places old (ItemTypeDecl.variant d) e new (inr b) q = name_stops of side places old d.id e b.2 q.2.0
-item_stops naming of side places old (ItemTypeDecl.record_decl d) e new (inl b) q = record_stops old.scope d e q.0 b q.1
-item_stops naming of side places old (ItemTypeDecl.record_decl d) e new (inr b) q = name_stops of side places old d.id e b.2 q.2.0
-item_stops naming of side places old (ItemTypeDecl.flags d) e new (inl b) q = flags_stop d e q.0 b q.1
-item_stops naming of side places old (ItemTypeDecl.flags d) e new (inr b) q = name_stops of side places old d.id e b.2 q.2.0
-item_stops naming of side places old (ItemTypeDecl.enum d) e new (inl b) q = enum_stops d e q.0 b q.1
-item_stops naming of side places old (ItemTypeDecl.enum d) e new (inr b) q = name_stops of side places old d.id e b.2 q.2.0
-item_stops naming of side places old (ItemTypeDecl.alias d) e new (inl b) q = alias_stops (in_body naming) old.scope old.resources d.id.string d.kind e q.0 q.1 b q.2
-item_stops naming of side places old (ItemTypeDecl.alias d) e new (inr b) q = name_stops of side places old d.id e b.3 q.3.0
+pub item_stops : (numbering : Numbering) (of : Owner) (side : ExternKind) (places : Named Span) (old : Body) (d : ItemTypeDecl) (e : Error) (new : Body) → ItemBroken numbering of side places old d e → HasItem numbering side old d new → ⊥
+item_stops numbering of side places old (ItemTypeDecl.resource d) e new (inl b) q = name_stops of side places old d.id e b q.0
+item_stops numbering of side places old (ItemTypeDecl.resource d) e new (inr b) q =
+    fails_stop (HasMethod side d.id.string (resource_entry numbering old.resources d.id.string)) (MethodBroken side d.id.string (resource_entry numbering old.resources d.id.string) e)
+    (method_once side d.id.string (resource_entry numbering old.resources d.id.string)) (method_stops side d.id.string (resource_entry numbering old.resources d.id.string) e)
+    (with_resource numbering side old d.id.string) d.methods new b.2 q.1
+item_stops numbering of side places old (ItemTypeDecl.variant d) e new (inl b) q = variant_stops old.scope d e q.0 b q.1
+item_stops numbering of side places old (ItemTypeDecl.variant d) e new (inr b) q = name_stops of side places old d.id e b.2 q.2.0
+item_stops numbering of side places old (ItemTypeDecl.record_decl d) e new (inl b) q = record_stops old.scope d e q.0 b q.1
+item_stops numbering of side places old (ItemTypeDecl.record_decl d) e new (inr b) q = name_stops of side places old d.id e b.2 q.2.0
+item_stops numbering of side places old (ItemTypeDecl.flags d) e new (inl b) q = flags_stop d e q.0 b q.1
+item_stops numbering of side places old (ItemTypeDecl.flags d) e new (inr b) q = name_stops of side places old d.id e b.2 q.2.0
+item_stops numbering of side places old (ItemTypeDecl.enum d) e new (inl b) q = enum_stops d e q.0 b q.1
+item_stops numbering of side places old (ItemTypeDecl.enum d) e new (inr b) q = name_stops of side places old d.id e b.2 q.2.0
+item_stops numbering of side places old (ItemTypeDecl.alias d) e new (inl b) q = alias_stops (in_body numbering) old.scope old.resources d.id.string d.kind e q.0 q.1 b q.2
+item_stops numbering of side places old (ItemTypeDecl.alias d) e new (inr b) q = name_stops of side places old d.id e b.3 q.3.0
 
 -- ---- use
 

@@ -9,7 +9,7 @@ pub use Rattle.wac_ast_grammar.specs.Leaves.{changed}
 pub use Rattle.wac_ast_grammar.specs.Spans.{argument_name_span, extern_name_text}
 pub use Rattle.wac_ast_grammar.specs.Tree.{Arguments, Document, EnumCase, EnumDecl, ExportOptions, ExportStatement, Expr, ExternName, ExternType, Field, Flag, FlagsDecl, FuncType, FuncTypeRef, Ident, ImportStatement, ImportType, InstantiationArgument, InstantiationArgumentName, InterfaceItem, ItemTypeDecl, LetStatement, NamedType, OptionalTy, PackageName, PackagePath, PostfixExpr, PrimaryExpr, RecordDecl, ResourceMethod, ResultList, Statement, Ty, TypeAliasKind, TypeDecl, TypeStatement, Types, Use, UseItem, UsePath, VariantCase, VariantDecl, WorldInclude, WorldIncludeItem, WorldItem, WorldItemPath, WorldRef}
 pub use Rattle.wac_ast_grammar.specs.Walk.{walk_arguments, walk_enum_case, walk_enum_decl, walk_export_options, walk_export_statement, walk_expr, walk_extern_name, walk_extern_type, walk_field, walk_flag, walk_flags_decl, walk_func_type, walk_func_type_ref, walk_import_statement, walk_import_type, walk_instantiation_argument, walk_instantiation_argument_name, walk_interface_item, walk_item_type_decl, walk_let_statement, walk_named_type, walk_optional_ty, walk_postfix_expr, walk_primary_expr, walk_record_decl, walk_resource_method, walk_result_list, walk_statement, walk_ty, walk_type_alias_kind, walk_type_decl, walk_type_statement, walk_types, walk_use, walk_use_item, walk_use_path, walk_variant_case, walk_variant_decl, walk_world_include, walk_world_include_item, walk_world_item, walk_world_item_path, walk_world_ref}
-pub use Rattle.wac_graph.specs.Origin.{Naming}
+pub use Rattle.wac_graph.specs.Origin.{Numbering}
 pub use Rattle.wac_graph.specs.Package.{Key, same_key, same_version}
 pub use Rattle.wac_graph.specs.Packages.{Contents, Packages, package_of}
 pub use Rattle.wac_graph.specs.Resources.{resource_entry}

@@ -1,5 +1,5 @@
 -- In a body each name of the scope is among the externs, so a name that is fresh there is fresh in the scope: a `use` needs no second test.
-use Rattle.wac_resolution_rules.proofs.Common.{◌≡◌, ℕ, suc, List, [], ◌∷◌, ◌++◌, Some, None, Bool, true, false, cond, refl, sym, ap, subst, bytes_eq, ExternKind, func, a_resource, Meaning, Named, Scope, look_up, IsFresh, with_named, Steps, kind_of, promoted, Naming, resource_entry, ResourceMethod, ItemTypeDecl, UseItem, Use, InterfaceItem, WorldItemPath, WorldItem}
+use Rattle.wac_resolution_rules.proofs.Common.{◌≡◌, ℕ, suc, List, [], ◌∷◌, ◌++◌, Some, None, Bool, true, false, cond, refl, sym, ap, subst, bytes_eq, ExternKind, func, a_resource, Meaning, Named, Scope, look_up, IsFresh, with_named, Steps, kind_of, promoted, Numbering, resource_entry, ResourceMethod, ItemTypeDecl, UseItem, Use, InterfaceItem, WorldItemPath, WorldItem}
 use Rattle.wac_graph_types.specs.declared.kind.ExternKind.TheVariants as sides
 use Rattle.wac_resolution_rules.specs.Paths.{Context}
 use Rattle.wac_resolution_rules.specs.Bodies.{Body, empty_body, with_extern, with_type, with_count, constructor_name, name_of_method, HasMethod, with_resource, HasItem, used_as, renamed_from, UsesItem, HasUse, IsCovered}
@@ -43,15 +43,15 @@ method_covered : (side : ExternKind) (resource : List ℕ) (entry : Meaning) (ol
 method_covered side resource entry old (ResourceMethod.constructor c) new has p = subst (IsCovered side) (sym p.1.2) (with_extern_covered side old old.resources (constructor_name resource) (kind_of func p.1.0) has)
 method_covered side resource entry old (ResourceMethod.method x) new has p = subst (IsCovered side) (sym p.2.2) (with_extern_covered side old old.resources (name_of_method x.is_static resource x.id.string) (kind_of func p.2.0) has)
 
-item_covered : (naming : Naming) (side : ExternKind) (old : Body) (d : ItemTypeDecl) (new : Body) → IsCovered side old → HasItem naming side old d new → IsCovered side new
-item_covered naming side old (ItemTypeDecl.resource d) new has p =
-    steps_keep (HasMethod side d.id.string (resource_entry naming old.resources d.id.string)) (IsCovered side) (method_covered side d.id.string (resource_entry naming old.resources d.id.string)) (with_resource naming side old d.id.string) d.methods new
-    (with_type_covered side old (suc old.resources) d.id.string (kind_of a_resource (resource_entry naming old.resources d.id.string)) has) p.1
-item_covered naming side old (ItemTypeDecl.variant d) new has p = subst (IsCovered side) (sym p.2.1) (with_type_covered side old old.resources d.id.string p.0 has)
-item_covered naming side old (ItemTypeDecl.record_decl d) new has p = subst (IsCovered side) (sym p.2.1) (with_type_covered side old old.resources d.id.string p.0 has)
-item_covered naming side old (ItemTypeDecl.flags d) new has p = subst (IsCovered side) (sym p.2.1) (with_type_covered side old old.resources d.id.string p.0 has)
-item_covered naming side old (ItemTypeDecl.enum d) new has p = subst (IsCovered side) (sym p.2.1) (with_type_covered side old old.resources d.id.string p.0 has)
-item_covered naming side old (ItemTypeDecl.alias d) new has p = subst (IsCovered side) (sym p.3.1) (with_type_covered side old p.1 d.id.string p.0 has)
+item_covered : (numbering : Numbering) (side : ExternKind) (old : Body) (d : ItemTypeDecl) (new : Body) → IsCovered side old → HasItem numbering side old d new → IsCovered side new
+item_covered numbering side old (ItemTypeDecl.resource d) new has p =
+    steps_keep (HasMethod side d.id.string (resource_entry numbering old.resources d.id.string)) (IsCovered side) (method_covered side d.id.string (resource_entry numbering old.resources d.id.string)) (with_resource numbering side old d.id.string) d.methods new
+    (with_type_covered side old (suc old.resources) d.id.string (kind_of a_resource (resource_entry numbering old.resources d.id.string)) has) p.1
+item_covered numbering side old (ItemTypeDecl.variant d) new has p = subst (IsCovered side) (sym p.2.1) (with_type_covered side old old.resources d.id.string p.0 has)
+item_covered numbering side old (ItemTypeDecl.record_decl d) new has p = subst (IsCovered side) (sym p.2.1) (with_type_covered side old old.resources d.id.string p.0 has)
+item_covered numbering side old (ItemTypeDecl.flags d) new has p = subst (IsCovered side) (sym p.2.1) (with_type_covered side old old.resources d.id.string p.0 has)
+item_covered numbering side old (ItemTypeDecl.enum d) new has p = subst (IsCovered side) (sym p.2.1) (with_type_covered side old old.resources d.id.string p.0 has)
+item_covered numbering side old (ItemTypeDecl.alias d) new has p = subst (IsCovered side) (sym p.3.1) (with_type_covered side old p.1 d.id.string p.0 has)
 
 use_item_covered : (side : ExternKind) (interface : Meaning) (old : Body) (x : UseItem) (new : Body) → IsCovered side old → UsesItem side interface old x new → IsCovered side new
 use_item_covered side interface old x new has p =
@@ -63,7 +63,7 @@ use_covered context root side old u new has p = steps_keep (UsesItem side (promo
 -- the items of an interface keep it
 pub interface_item_covered : (context : Context) (root : Scope) (old : Body) (x : InterfaceItem) (new : Body) → IsCovered sides.Export old → HasInterfaceItem context root old x new → IsCovered sides.Export new
 interface_item_covered context root old (InterfaceItem.use_statement u) new has p = use_covered context root sides.Export old u new has p
-interface_item_covered context root old (InterfaceItem.ty d) new has p = item_covered context.naming sides.Export old d new has p
+interface_item_covered context root old (InterfaceItem.ty d) new has p = item_covered context.numbering sides.Export old d new has p
 interface_item_covered context root old (InterfaceItem.interface_export x) new has p = subst (IsCovered sides.Export) (sym p.3) (with_extern_covered sides.Export old old.resources x.id.string (kind_of func p.0) has)
 
 import_covered : (context : Context) (root : Scope) (old : Body) (x : WorldItemPath) (new : Body) → IsCovered sides.Import old → HasExtern context root sides.Import old x new → IsCovered sides.Import new
@@ -82,7 +82,7 @@ world_item_covered context root old (WorldItem.use_statement u) new has p = use_
 world_item_covered context root old (WorldItem.world_import x) new has p = import_covered context root old x.path new has p
 world_item_covered context root old (WorldItem.world_export x) new has p = export_covered context root old x.path new has p
 world_item_covered context root old (WorldItem.world_include x) new has p = subst (IsCovered sides.Import) (sym p) has
-world_item_covered context root old (WorldItem.ty d) new has p = item_covered context.naming sides.Import old d new has p
+world_item_covered context root old (WorldItem.ty d) new has p = item_covered context.numbering sides.Import old d new has p
 
 -- so it holds of each body of an interface, and of a world before its includes
 pub interface_covered : (context : Context) (root : Scope) (n : ℕ) (items : List InterfaceItem) (b : Body) → Steps (HasInterfaceItem context root) (empty_body n) items b → IsCovered sides.Export b

@@ -1,5 +1,5 @@
 -- Documents that are worked out: what they compose, or which rule they break.
-use Rattle.wac_resolution_rules.proofs.Common.{◌≡◌, ℕ, List, [], ◌∷◌, refl, Option, Some, None, false, codes, inl, inr, span, Reason, func, instance, component, a_world, Meaning, Named, look_up, kind_of, func_entry, interface_entry, world_entry, Key, Naming, Contents, Ident, PackageName, PackagePath, FuncType, InterfaceItem, Expr, Arguments, Statement, ExportOptions, ExternName, ExternType, FuncTypeRef, ImportType, InstantiationArgument, PostfixExpr, PrimaryExpr, ResultList, TypeStatement, WorldItem, WorldItemPath, duplicate_extern_name, fill_argument_not_last, import_not_in_target, mismatched_instantiation_arg, missing_instantiation_arg, missing_target_export, unknown_package}
+use Rattle.wac_resolution_rules.proofs.Common.{◌≡◌, ℕ, List, [], ◌∷◌, refl, Option, Some, None, false, codes, inl, inr, span, Reason, func, instance, component, a_world, Meaning, Named, look_up, kind_of, func_entry, interface_entry, world_entry, Key, Numbering, Contents, Ident, PackageName, PackagePath, FuncType, InterfaceItem, Expr, Arguments, Statement, ExportOptions, ExternName, ExternType, FuncTypeRef, ImportType, InstantiationArgument, PostfixExpr, PrimaryExpr, ResultList, TypeStatement, WorldItem, WorldItemPath, duplicate_extern_name, fill_argument_not_last, import_not_in_target, mismatched_instantiation_arg, missing_instantiation_arg, missing_target_export, unknown_package}
 use Rattle.wac_graph_types.specs.declared.kind.ExternKind.TheVariants as externs
 use Rattle.wac_resolution_rules.specs.Given.{Given, Rules, imports_in}
 use Rattle.wac_resolution_rules.specs.Bodies.{Body}
@@ -26,8 +26,8 @@ function = kind_of func (func_entry false [] [])
 abbrev pub all_pass : Rules
 all_pass = record { passes = λ a b. None; named = λ text. None }
 
-abbrev pub given_in : Naming → List (Key × Contents) → Given
-given_in naming packages = record { context = record { naming = naming; own = codes "a:b"; version = None; packages = packages }; rules = all_pass }
+abbrev pub given_in : Numbering → List (Key × Contents) → Given
+given_in numbering packages = record { context = record { numbering = numbering; own = codes "a:b"; version = None; packages = packages }; rules = all_pass }
 
 -- ---- package a:b; import x: interface { f: func(); }; export x.f;
 
@@ -56,11 +56,11 @@ whole_x = record { nodes = node_x ∷ record { form = aliased 0 (codes "f"); kin
 abbrev body_f : Body
 body_f = record { scope = []; uses = []; imports = []; exports = (codes "f", function) ∷ []; resources = 0 }
 
-imports_x : (naming : Naming) → StatementStep (given_in naming []) start import_x with_x
-imports_x naming = (instance_x, 0, (interface_entry None [] ((codes "f", function) ∷ []), (body_f, (body_f, (func_entry false [] [], ([], [], refl, refl, refl), refl, refl), refl), refl, refl), refl), refl, refl, refl, refl)
+imports_x : (numbering : Numbering) → StatementStep (given_in numbering []) start import_x with_x
+imports_x numbering = (instance_x, 0, (interface_entry None [] ((codes "f", function) ∷ []), (body_f, (body_f, (func_entry false [] [], ([], [], refl, refl, refl), refl, refl), refl), refl, refl), refl), refl, refl, refl, refl)
 
-exports_x_f : (naming : Naming) → StatementStep (given_in naming []) with_x export_x_f whole_x
-exports_x_f naming = (
+exports_x_f : (numbering : Numbering) → StatementStep (given_in numbering []) with_x export_x_f whole_x
+exports_x_f numbering = (
   record { composition = record { nodes = whole_x.nodes; exports = []; declared = (codes "x", 0) ∷ []; resources = 0 }; node = 1 },
   (
     record { composition = with_x; node = 0 },
@@ -74,8 +74,8 @@ exports_x_f naming = (
   (record { form = aliased 0 (codes "f"); kind = function; name = None; arguments = [] }, codes "f", refl, refl, (refl, refl, refl, refl)),
 )
 
-pub access_composes : (naming : Naming) → Composes (given_in naming []) start (import_x ∷ export_x_f ∷ []) whole_x
-access_composes naming = (with_x, imports_x naming, (whole_x, exports_x_f naming, refl))
+pub access_composes : (numbering : Numbering) → Composes (given_in numbering []) start (import_x ∷ export_x_f ∷ []) whole_x
+access_composes numbering = (with_x, imports_x numbering, (whole_x, exports_x_f numbering, refl))
 
 -- ---- package a:b; import log: func(); let i = new c:d { log, ... }; export i.run;
 
@@ -96,8 +96,8 @@ key_cd = (codes "c:d", None)
 abbrev pub name_cd : PackageName
 name_cd = record { string = codes "c:d"; name = codes "c:d"; version = None; span = span 45 3 }
 
-abbrev pub with_cd : Naming → Given
-with_cd naming = given_in naming ((key_cd, package_cd) ∷ [])
+abbrev pub with_cd : Numbering → Given
+with_cd numbering = given_in numbering ((key_cd, package_cd) ∷ [])
 
 abbrev import_log : Statement
 import_log = Statement.import_statement (record { docs = []; id = ident (codes "log") 20 3; name = None; ty = ImportType.func no_params })
@@ -136,14 +136,14 @@ with_i = record { nodes = node_log ∷ node_i (Some (codes "i")) ∷ []; exports
 abbrev whole_i : Composition
 whole_i = record { nodes = node_log ∷ node_i (Some (codes "i")) ∷ node_run ∷ []; exports = (codes "run", 2) ∷ []; declared = (codes "log", 0) ∷ (codes "i", 1) ∷ []; resources = 0 }
 
-imports_log : (naming : Naming) → StatementStep (with_cd naming) start import_log with_log
-imports_log naming = (function, 0, (func_entry false [] [], ([], [], refl, refl, refl), refl, refl), refl, refl, refl, refl)
+imports_log : (numbering : Numbering) → StatementStep (with_cd numbering) start import_log with_log
+imports_log numbering = (function, 0, (func_entry false [] [], ([], [], refl, refl, refl), refl, refl), refl, refl, refl, refl)
 
 abbrev given_log : Giving
 given_log = record { composition = with_log; arguments = (codes "log", 0) ∷ [] }
 
-lets_i : (naming : Naming) → StatementStep (with_cd naming) with_log (let_i log_and_fill) with_i
-lets_i naming = (
+lets_i : (numbering : Numbering) → StatementStep (with_cd numbering) with_log (let_i log_and_fill) with_i
+lets_i numbering = (
   record { composition = made_i; node = 1 },
   (
     record { composition = made_i; node = 1 },
@@ -162,8 +162,8 @@ lets_i naming = (
   refl,
 )
 
-exports_i_run : (naming : Naming) → StatementStep (with_cd naming) with_i export_i_run whole_i
-exports_i_run naming = (
+exports_i_run : (numbering : Numbering) → StatementStep (with_cd numbering) with_i export_i_run whole_i
+exports_i_run numbering = (
   record { composition = record { nodes = whole_i.nodes; exports = []; declared = whole_i.declared; resources = 0 }; node = 2 },
   (
     record { composition = with_i; node = 1 },
@@ -177,12 +177,12 @@ exports_i_run naming = (
   (node_run, codes "run", refl, refl, (refl, refl, refl, refl)),
 )
 
-pub instance_composes : (naming : Naming) → Composes (with_cd naming) start (import_log ∷ let_i log_and_fill ∷ export_i_run ∷ []) whole_i
-instance_composes naming = (with_log, imports_log naming, (with_i, lets_i naming, (whole_i, exports_i_run naming, refl)))
+pub instance_composes : (numbering : Numbering) → Composes (with_cd numbering) start (import_log ∷ let_i log_and_fill ∷ export_i_run ∷ []) whole_i
+instance_composes numbering = (with_log, imports_log numbering, (with_i, lets_i numbering, (whole_i, exports_i_run numbering, refl)))
 
 -- with { log } instead: 45+3, missing instantiation argument x:y/z for package c:d
-pub argument_is_missing : (naming : Naming) (p : Places) → StatementBroken (with_cd naming) with_log p (missing_instantiation_arg (codes "x:y/z") (codes "c:d") (span 45 3)) (let_i log_alone)
-argument_is_missing naming p = inl (inl (inr (inr (inr (
+pub argument_is_missing : (numbering : Numbering) (p : Places) → StatementBroken (with_cd numbering) with_log p (missing_instantiation_arg (codes "x:y/z") (codes "c:d") (span 45 3)) (let_i log_alone)
+argument_is_missing numbering p = inl (inl (inr (inr (inr (
   package_cd,
   given_log,
   given_log,
@@ -193,8 +193,8 @@ argument_is_missing naming p = inl (inl (inr (inr (inr (
 )))))
 
 -- with { log, ..., } and a package that isn't given, 45+3: unknown package c:d
-pub package_is_unknown : (naming : Naming) (p : Places) (args : Arguments) → StatementBroken (given_in naming []) with_log p (unknown_package (codes "c:d") (span 45 3)) (let_i args)
-package_is_unknown naming p args = inl (inl (inl (refl, refl)))
+pub package_is_unknown : (numbering : Numbering) (p : Places) (args : Arguments) → StatementBroken (given_in numbering []) with_log p (unknown_package (codes "c:d") (span 45 3)) (let_i args)
+package_is_unknown numbering p args = inl (inl (inl (refl, refl)))
 
 -- ---- package a:b; let x = new c:d { ..., y };
 
@@ -202,8 +202,8 @@ abbrev fill_first : Arguments
 fill_first = Arguments.more (InstantiationArgument.fill (span 31 3)) (Arguments.more (InstantiationArgument.inferred (ident (codes "y") 36 1)) Arguments.none)
 
 -- 31+3: the fill must be the last argument
-pub fill_is_not_last : (naming : Naming) (p : Places) → StatementBroken (with_cd naming) start p (fill_argument_not_last (span 31 3)) (let_i fill_first)
-fill_is_not_last naming p = inl (inl (inr (inl (package_cd, refl, inl (λ h. h, refl)))))
+pub fill_is_not_last : (numbering : Numbering) (p : Places) → StatementBroken (with_cd numbering) start p (fill_argument_not_last (span 31 3)) (let_i fill_first)
+fill_is_not_last numbering p = inl (inl (inr (inl (package_cd, refl, inl (λ h. h, refl)))))
 
 -- ---- package a:b; import x: interface { log: func(); }; let i = new c:d { ...x, ... };
 
@@ -242,8 +242,8 @@ made_spread = record {
   resources = 0;
 }
 
-pub spread_composes : (naming : Naming) → StatementStep (with_cd naming) with_x_log (let_i spread_and_fill) whole_spread
-spread_composes naming = (
+pub spread_composes : (numbering : Numbering) → StatementStep (with_cd numbering) with_x_log (let_i spread_and_fill) whole_spread
+spread_composes numbering = (
   record { composition = made_spread; node = 2 },
   (
     record { composition = made_spread; node = 2 },
@@ -263,12 +263,12 @@ spread_composes naming = (
 )
 
 -- rules that pass nothing, for one reason
-abbrev pub none_pass : Naming → Reason → Given
-none_pass naming r = record { context = (with_cd naming).context; rules = record { passes = λ a b. Some r; named = λ text. None } }
+abbrev pub none_pass : Numbering → Reason → Given
+none_pass numbering r = record { context = (with_cd numbering).context; rules = record { passes = λ a b. Some r; named = λ text. None } }
 
 -- then 72+1: mismatched instantiation argument log, for that reason
-pub argument_mismatches : (naming : Naming) (p : Places) (r : Reason) → StatementBroken (none_pass naming r) with_x_log p (mismatched_instantiation_arg (codes "log") r (span 72 1)) (let_i spread_and_fill)
-argument_mismatches naming p r = inl (inl (inr (inr (inr (
+pub argument_mismatches : (numbering : Numbering) (p : Places) (r : Reason) → StatementBroken (none_pass numbering r) with_x_log p (mismatched_instantiation_arg (codes "log") r (span 72 1)) (let_i spread_and_fill)
+argument_mismatches numbering p r = inl (inl (inr (inr (inr (
   package_cd,
   record { composition = with_x_log; arguments = [] },
   spread_log,
@@ -295,8 +295,8 @@ abbrev export_k_as_f : Statement
 export_k_as_f = Statement.export_statement (record { docs = []; expr = Expr.expr (span 86 1) (PrimaryExpr.ident (ident (codes "k") 86 1)) []; options = ExportOptions.rename (ExternName.ident (ident (codes "f") 91 1)) })
 
 -- 91+1, previous 61+1: duplicate export f
-pub export_is_repeated : (naming : Naming) → StatementBroken (given_in naming []) with_f_h places_f_h (duplicate_extern_name externs.Export (codes "f") (span 91 1) (span 61 1) None) export_k_as_f
-export_is_repeated naming = inr (record { composition = with_f_h; node = 1 }, (record { composition = with_f_h; node = 1 }, (1, refl, refl), refl), inr (refl, inl (0, span 61 1, refl, refl, refl)))
+pub export_is_repeated : (numbering : Numbering) → StatementBroken (given_in numbering []) with_f_h places_f_h (duplicate_extern_name externs.Export (codes "f") (span 91 1) (span 61 1) None) export_k_as_f
+export_is_repeated numbering = inr (record { composition = with_f_h; node = 1 }, (record { composition = with_f_h; node = 1 }, (1, refl, refl), refl), inr (refl, inl (0, span 61 1, refl, refl, refl)))
 
 -- ---- package a:b targets a:b/w; world w { export run: func(); }
 
@@ -319,8 +319,8 @@ with_w = record { nodes = record { form = definition; kind = kind_of a_world ent
 abbrev body_run : Body
 body_run = record { scope = []; uses = []; imports = []; exports = (codes "run", function) ∷ []; resources = 0 }
 
-pub world_composes : (naming : Naming) → Composes (given_in naming []) start (world_w ∷ []) with_w
-world_composes naming = (
+pub world_composes : (numbering : Numbering) → Composes (given_in numbering []) start (world_w ∷ []) with_w
+world_composes numbering = (
   with_w,
   (
     kind_of a_world entry_w,
@@ -332,15 +332,15 @@ world_composes naming = (
 )
 
 -- 20+5: target world a:b/w requires an export named run
-pub export_is_missing : (naming : Naming) (p : Places) → TargetBroken (given_in naming []) with_w p (missing_target_export (codes "run") (codes "a:b/w") (codes "function") (span 20 5)) target_w
-export_is_missing naming p = inr (kind_of a_world entry_w, (root_scope with_w, refl, (kind_of a_world entry_w, refl, refl)), inr (entry_w, refl, inr (inr (inl (record { wanted = (codes "run", function); fit = tt; reached = ([], [], refl, tt); fresh = refl; error = refl })))))
+pub export_is_missing : (numbering : Numbering) (p : Places) → TargetBroken (given_in numbering []) with_w p (missing_target_export (codes "run") (codes "a:b/w") (codes "function") (span 20 5)) target_w
+export_is_missing numbering p = inr (kind_of a_world entry_w, (root_scope with_w, refl, (kind_of a_world entry_w, refl, refl)), inr (entry_w, refl, inr (inr (inl (record { wanted = (codes "run", function); fit = tt; reached = ([], [], refl, tt); fresh = refl; error = refl })))))
 
 -- ---- the composition of log, i and i.run under targets
 
 -- what i leaves open isn't allowed by a world that imports log alone; it has no place
-pub open_not_in_target : (naming : Naming) (p : Places)
-    → TargetWorldBroken (with_cd naming) whole_i p (import_not_in_target (codes "x:y/z") (codes "a:b/w") None) target_w (world_entry (Some (codes "a:b/w")) [] ((codes "log", function) ∷ []) [])
-open_not_in_target naming p = inl (record {
+pub open_not_in_target : (numbering : Numbering) (p : Places)
+    → TargetWorldBroken (with_cd numbering) whole_i p (import_not_in_target (codes "x:y/z") (codes "a:b/w") None) target_w (world_entry (Some (codes "a:b/w")) [] ((codes "log", function) ∷ []) [])
+open_not_in_target numbering p = inl (record {
   imported = ((codes "x:y/z", instance_z), None);
   reached = (((codes "log", function), look_up (codes "log") p.imported) ∷ [], [], refl, ((function, refl, refl), tt));
   absent = refl;
@@ -348,9 +348,9 @@ open_not_in_target naming p = inl (record {
 })
 
 -- a world that uses a type of x:y/z allows it
-pub used_is_allowed : (naming : Naming)
-    → IsAllowed (with_cd naming) whole_i (world_entry (Some (codes "a:b/w")) (((codes "t", None), instance_z) ∷ []) ((codes "log", function) ∷ []) ((codes "run", function) ∷ []))
-used_is_allowed naming = (((function, refl, refl), ((instance_z, refl, refl), tt)), ((2, refl, refl), tt))
+pub used_is_allowed : (numbering : Numbering)
+    → IsAllowed (with_cd numbering) whole_i (world_entry (Some (codes "a:b/w")) (((codes "t", None), instance_z) ∷ []) ((codes "log", function) ∷ []) ((codes "run", function) ∷ []))
+used_is_allowed numbering = (((function, refl, refl), ((instance_z, refl, refl), tt)), ((2, refl, refl), tt))
 
 -- ---- short names
 

@@ -18,12 +18,12 @@ use Rattle.wac_resolution_rules.proofs.TypesMention.{along, agree_prefix, steps_
 
 -- ---- expressions
 
-handed_agrees : (ps qs : Packages) (b : Bool) (m : Mention) → Agree ps qs (if b then [] else m ∷ []) → (if b then None else package_of m.0 ps) ≡ (if b then None else package_of m.0 qs)
-handed_agrees ps qs true m h = refl
-handed_agrees ps qs false m h = h.0
+supplied_agrees : (ps qs : Packages) (b : Bool) (m : Mention) → Agree ps qs (if b then [] else m ∷ []) → (if b then None else package_of m.0 ps) ≡ (if b then None else package_of m.0 qs)
+supplied_agrees ps qs true m h = refl
+supplied_agrees ps qs false m h = h.0
 
 pub instantiable_agrees : (g : Given) (ps qs : Packages) (x : PackageName) → Agree ps qs (name_mentions g.context.own x) → instantiable (given_over g ps) x ≡ instantiable (given_over g qs) x
-instantiable_agrees g ps qs x h = handed_agrees ps qs (bytes_eq x.name g.context.own) (key_named x, x.span) h
+instantiable_agrees g ps qs x h = supplied_agrees ps qs (bytes_eq x.name g.context.own) (key_named x, x.span) h
 
 mutual
   pub stands_agree : (g : Given) (ps qs : Packages) (old : Composition) (x : Expr) → Agree ps qs (expr_mentions g.context.own x) → Stands (given_over g ps) old x ≡ Stands (given_over g qs) old x

@@ -1,12 +1,12 @@
 -- A world that imports by itself what the world that it includes imports too.
-use Rattle.wac_resolution_rules.proofs.Common.{◌≡◌, ℕ, List, [], ◌∷◌, None, refl, codes, map, span, Steps, entry_of, imports_of, exports_of, Naming, Ident, WorldItem, WorldItemPath, WorldRef, TypeStatement}
+use Rattle.wac_resolution_rules.proofs.Common.{◌≡◌, ℕ, List, [], ◌∷◌, None, refl, codes, map, span, Steps, entry_of, imports_of, exports_of, Numbering, Ident, WorldItem, WorldItemPath, WorldRef, TypeStatement}
 use Rattle.wac_resolution_rules.specs.Paths.{Context}
 use Rattle.wac_resolution_rules.specs.Composition.{Composition, start, kind_at}
 use Rattle.wac_resolution_rules.specs.TypeStatements.{Declares}
 
 -- the document's own package is a:b, and none is given
-abbrev context_of : Naming → Context
-context_of naming = record { naming = naming; own = codes "a:b"; version = None; packages = [] }
+abbrev context_of : Numbering → Context
+context_of numbering = record { numbering = numbering; own = codes "a:b"; version = None; packages = [] }
 
 abbrev ident : List ℕ → ℕ → ℕ → Ident
 ident text offset len = record { string = text; span = span offset len }
@@ -37,8 +37,8 @@ document =
     })
     ∷ []
 
-pub imports_once : (naming : Naming) → (new : Composition) × Steps (Declares (context_of naming)) start document new × (imported_names new 2 ≡ codes "a:b/i" ∷ [])
-imports_once naming = (
+pub imports_once : (numbering : Numbering) → (new : Composition) × Steps (Declares (context_of numbering)) start document new × (imported_names new 2 ≡ codes "a:b/i" ∷ [])
+imports_once numbering = (
   _,
   (
     _,

@@ -18,7 +18,7 @@ func_ref_once scope (FuncTypeRef.ident x) a b p q = p.3 ∙ ap entry_of (stands_
 
 pub interface_item_once : (context : Context) (root : Scope) → IsOnce (HasInterfaceItem context root)
 interface_item_once context root old (InterfaceItem.use_statement u) a b p q = use_once context root sides.Export old u a b p q
-interface_item_once context root old (InterfaceItem.ty d) a b p q = item_once context.naming sides.Export old d a b p q
+interface_item_once context root old (InterfaceItem.ty d) a b p q = item_once context.numbering sides.Export old d a b p q
 interface_item_once context root old (InterfaceItem.interface_export x) a b p q =
     p.3 ∙ ap (λ f. with_extern sides.Export old x.id.string (kind_of func f)) (func_ref_once old.scope x.ty p.0 q.0 p.1 q.1) ∙ sym q.3
 
@@ -51,7 +51,7 @@ world_item_once context root old (WorldItem.use_statement u) a b p q = use_once 
 world_item_once context root old (WorldItem.world_import x) a b p q = extern_once context root sides.Import old x.path a b p q
 world_item_once context root old (WorldItem.world_export x) a b p q = extern_once context root sides.Export old x.path a b p q
 world_item_once context root old (WorldItem.world_include x) a b p q = p ∙ sym q
-world_item_once context root old (WorldItem.ty d) a b p q = item_once context.naming sides.Import old d a b p q
+world_item_once context root old (WorldItem.ty d) a b p q = item_once context.numbering sides.Import old d a b p q
 
 pub world_once : (context : Context) (root : Scope) (n : ℕ) (id : Option (List ℕ)) (items : List WorldItem) (a b : Meaning) (i j : ℕ)
     → IsWorld context root n id items a i → IsWorld context root n id items b j → Same a i b j

@@ -1,5 +1,5 @@
 -- Of a type statement only the names matter.
-use Rattle.wac_resolution_rules.proofs.Common.{◌≡◌, ℕ, List, [], ◌∷◌, Some, None, Option, refl, ◌∙◌, ap, map, ExternKind, func, instance, an_interface, a_world, Meaning, Scope, IsFresh, Steps, IsA, is_interface_form, is_world_form, kind_of, entry_of, promoted, interface_entry, world_entry, Naming, resource_entry, Ident, FuncTypeRef, ResourceMethod, ItemTypeDecl, UsePath, UseItem, Use, InterfaceItem, ExternType, WorldItemPath, WorldRef, WorldInclude, WorldItem, TypeDecl, TypeStatement, walk_extern_type, walk_func_type_ref, walk_interface_item, walk_item_type_decl, walk_resource_method, walk_type_decl, walk_type_statement, walk_use, walk_use_item, walk_use_path, walk_world_include, walk_world_include_item, walk_world_item, walk_world_item_path, walk_world_ref, changed, no_docs, plain}
+use Rattle.wac_resolution_rules.proofs.Common.{◌≡◌, ℕ, List, [], ◌∷◌, Some, None, Option, refl, ◌∙◌, ap, map, ExternKind, func, instance, an_interface, a_world, Meaning, Scope, IsFresh, Steps, IsA, is_interface_form, is_world_form, kind_of, entry_of, promoted, interface_entry, world_entry, Numbering, resource_entry, Ident, FuncTypeRef, ResourceMethod, ItemTypeDecl, UsePath, UseItem, Use, InterfaceItem, ExternType, WorldItemPath, WorldRef, WorldInclude, WorldItem, TypeDecl, TypeStatement, walk_extern_type, walk_func_type_ref, walk_interface_item, walk_item_type_decl, walk_resource_method, walk_type_decl, walk_type_statement, walk_use, walk_use_item, walk_use_path, walk_world_include, walk_world_include_item, walk_world_item, walk_world_item_path, walk_world_ref, changed, no_docs, plain}
 use Rattle.wac_graph_types.specs.declared.kind.ExternKind.TheVariants as sides
 use Rattle.wac_resolution_rules.specs.Types.{first_params}
 use Rattle.wac_resolution_rules.specs.Declarations.{in_body}
@@ -23,16 +23,16 @@ method_plain side resource entry old (ResourceMethod.method x) = λ i new.
     × ((f : Meaning) × func_with_plain old.scope (first_params x.is_static entry) x.ty i f
     × (new ≡ with_extern side old (name_of_method x.is_static resource x.id.string) (kind_of func f)))
 
-pub item_plain : (naming : Naming) (side : ExternKind) (old : Body) (d : ItemTypeDecl) → HasItem naming side old (walk_item_type_decl (changed plain) no_docs d) ≡ HasItem naming side old d
-item_plain naming side old (ItemTypeDecl.resource d) = λ i new.
+pub item_plain : (numbering : Numbering) (side : ExternKind) (old : Body) (d : ItemTypeDecl) → HasItem numbering side old (walk_item_type_decl (changed plain) no_docs d) ≡ HasItem numbering side old d
+item_plain numbering side old (ItemTypeDecl.resource d) = λ i new.
     IsNew side old d.id.string
-    × steps_map (HasMethod side d.id.string (resource_entry naming old.resources d.id.string)) (walk_resource_method (changed plain) no_docs) (method_plain side d.id.string (resource_entry naming old.resources d.id.string)) (with_resource naming side old d.id.string) d.methods i new
-item_plain naming side old (ItemTypeDecl.variant d) = λ i new. (m : Meaning) × variant_plain old.scope d i m × DeclaresIn side old d.id m old.resources new
-item_plain naming side old (ItemTypeDecl.record_decl d) = λ i new. (m : Meaning) × record_plain old.scope d i m × DeclaresIn side old d.id m old.resources new
-item_plain naming side old (ItemTypeDecl.flags d) = λ i new. (m : Meaning) × flags_plain d i m × DeclaresIn side old d.id m old.resources new
-item_plain naming side old (ItemTypeDecl.enum d) = λ i new. (m : Meaning) × enum_plain d i m × DeclaresIn side old d.id m old.resources new
-item_plain naming side old (ItemTypeDecl.alias d) = λ i new.
-    (m : Meaning) × (n : ℕ) × alias_plain (in_body naming) old.scope old.resources d.id.string d.kind i m n × DeclaresIn side old d.id m n new
+    × steps_map (HasMethod side d.id.string (resource_entry numbering old.resources d.id.string)) (walk_resource_method (changed plain) no_docs) (method_plain side d.id.string (resource_entry numbering old.resources d.id.string)) (with_resource numbering side old d.id.string) d.methods i new
+item_plain numbering side old (ItemTypeDecl.variant d) = λ i new. (m : Meaning) × variant_plain old.scope d i m × DeclaresIn side old d.id m old.resources new
+item_plain numbering side old (ItemTypeDecl.record_decl d) = λ i new. (m : Meaning) × record_plain old.scope d i m × DeclaresIn side old d.id m old.resources new
+item_plain numbering side old (ItemTypeDecl.flags d) = λ i new. (m : Meaning) × flags_plain d i m × DeclaresIn side old d.id m old.resources new
+item_plain numbering side old (ItemTypeDecl.enum d) = λ i new. (m : Meaning) × enum_plain d i m × DeclaresIn side old d.id m old.resources new
+item_plain numbering side old (ItemTypeDecl.alias d) = λ i new.
+    (m : Meaning) × (n : ℕ) × alias_plain (in_body numbering) old.scope old.resources d.id.string d.kind i m n × DeclaresIn side old d.id m n new
 
 -- ---- paths and use
 
@@ -74,7 +74,7 @@ func_ref_plain scope (FuncTypeRef.ident x) = refl
 
 interface_item_plain : (context : Context) (root : Scope) (old : Body) (x : InterfaceItem) → HasInterfaceItem context root old (walk_interface_item (changed plain) no_docs x) ≡ HasInterfaceItem context root old x
 interface_item_plain context root old (InterfaceItem.use_statement u) = use_plain context root sides.Export old u
-interface_item_plain context root old (InterfaceItem.ty d) = item_plain context.naming sides.Export old d
+interface_item_plain context root old (InterfaceItem.ty d) = item_plain context.numbering sides.Export old d
 interface_item_plain context root old (InterfaceItem.interface_export x) = λ i new.
     (f : Meaning) × func_ref_plain old.scope x.ty i f × IsFresh x.id.string old.exports
     × (new ≡ with_extern sides.Export old x.id.string (kind_of func f))
@@ -104,7 +104,7 @@ world_item_plain context root old (WorldItem.use_statement u) = use_plain contex
 world_item_plain context root old (WorldItem.world_import x) = extern_plain context root sides.Import old x.path
 world_item_plain context root old (WorldItem.world_export x) = extern_plain context root sides.Export old x.path
 world_item_plain context root old (WorldItem.world_include x) = refl
-world_item_plain context root old (WorldItem.ty d) = item_plain context.naming sides.Import old d
+world_item_plain context root old (WorldItem.ty d) = item_plain context.numbering sides.Import old d
 
 includes_plain : (items : List WorldItem) → includes_of (map (walk_world_item (changed plain) no_docs) items) ≡ map (walk_world_include (changed plain) no_docs) (includes_of items)
 includes_plain [] = refl

@@ -27,7 +27,7 @@ func_ref_stops scope (FuncTypeRef.ident x) e m (inr b) q = none_stops _ scope x.
 
 interface_item_stops : (context : Context) (root : Scope) (of : Owner) (e : Error) (old : Body) (before : List InterfaceItem) (x : InterfaceItem) (new : Body) → InterfaceItemBroken context root of e old before x → HasInterfaceItem context root old x new → ⊥
 interface_item_stops context root of e old before (InterfaceItem.use_statement u) new b q = use_stops context root sides.Export old u e new b q
-interface_item_stops context root of e old before (InterfaceItem.ty d) new b q = item_stops context.naming of sides.Export (bound_in_interface before) old d e new b q
+interface_item_stops context root of e old before (InterfaceItem.ty d) new b q = item_stops context.numbering of sides.Export (bound_in_interface before) old d e new b q
 interface_item_stops context root of e old before (InterfaceItem.interface_export x) new (inl b) q = func_ref_stops old.scope x.ty e q.0 b q.1
 interface_item_stops context root of e old before (InterfaceItem.interface_export x) new (inr b) q = conflict_stops of sides.Export old x.id.string x.id.span e b.2 q.2
 
@@ -62,7 +62,7 @@ world_item_stops context root of e old before (WorldItem.use_statement u) new b 
 world_item_stops context root of e old before (WorldItem.world_import x) new b q = extern_stops context root of sides.Import old x.path e new b q
 world_item_stops context root of e old before (WorldItem.world_export x) new b q = extern_stops context root of sides.Export old x.path e new b q
 world_item_stops context root of e old before (WorldItem.world_include x) new b q = b
-world_item_stops context root of e old before (WorldItem.ty d) new b q = item_stops context.naming of sides.Import (bound_in_world before) old d e new b q
+world_item_stops context root of e old before (WorldItem.ty d) new b q = item_stops context.numbering of sides.Import (bound_in_world before) old d e new b q
 
 -- ---- include
 

@@ -7,7 +7,7 @@ use Rattle.wac_graph_types.specs.Meaning.{Meaning}
 use Rattle.wac_graph_types.specs.Scope.{Named, Scope, IsFresh, with_named}
 use Rattle.wac_graph_types.specs.Steps.{Steps}
 use Rattle.wac_graph_types.specs.Shape.{Uses, IsA, is_interface_form, is_resource_or_value_form, kind_of, export_of, promoted}
-use Rattle.wac_graph.specs.Origin.{Naming}
+use Rattle.wac_graph.specs.Origin.{Numbering}
 use Rattle.wac_graph.specs.Resources.{resource_entry}
 use Rattle.wac_ast_grammar.specs.Tree.{Ident, ResourceMethod, ItemTypeDecl, UseItem, Use}
 use Rattle.wac_resolution_rules.specs.Types.{IsFuncWith, IsConstructor, first_params}
@@ -78,9 +78,9 @@ HasMethod side resource entry old (ResourceMethod.method x) new =
     × (new ≡ with_extern side old (name_of_method x.is_static resource x.id.string) (kind_of func f)))
 
 -- a resource that a body declares, before its methods
-abbrev pub with_resource : Naming → ExternKind → Body → List ℕ → Body
-with_resource naming side b name =
-    with_type side (with_count b (suc b.resources)) name (kind_of a_resource (resource_entry naming b.resources name))
+abbrev pub with_resource : Numbering → ExternKind → Body → List ℕ → Body
+with_resource numbering side b name =
+    with_type side (with_count b (suc b.resources)) name (kind_of a_resource (resource_entry numbering b.resources name))
 
 -- ---- declarations of types in a body
 
@@ -88,21 +88,21 @@ with_resource naming side b name =
 abbrev pub DeclaresIn : ExternKind → Body → Ident → Meaning → ℕ → Body → Type 0
 DeclaresIn side old id m n new = IsNew side old id.string × (new ≡ with_type side (with_count old n) id.string m)
 
-abbrev pub HasItem : Naming → ExternKind → Body → ItemTypeDecl → Body → Type 0
-HasItem naming side old (ItemTypeDecl.resource d) new =
+abbrev pub HasItem : Numbering → ExternKind → Body → ItemTypeDecl → Body → Type 0
+HasItem numbering side old (ItemTypeDecl.resource d) new =
     IsNew side old d.id.string
-    × Steps (HasMethod side d.id.string (resource_entry naming old.resources d.id.string))
-    (with_resource naming side old d.id.string) d.methods new
-HasItem naming side old (ItemTypeDecl.variant d) new = (m : Meaning) × IsVariant old.scope d m
+    × Steps (HasMethod side d.id.string (resource_entry numbering old.resources d.id.string))
+    (with_resource numbering side old d.id.string) d.methods new
+HasItem numbering side old (ItemTypeDecl.variant d) new = (m : Meaning) × IsVariant old.scope d m
     × DeclaresIn side old d.id m old.resources new
-HasItem naming side old (ItemTypeDecl.record_decl d) new = (m : Meaning) × IsRecord old.scope d m
+HasItem numbering side old (ItemTypeDecl.record_decl d) new = (m : Meaning) × IsRecord old.scope d m
     × DeclaresIn side old d.id m old.resources new
-HasItem naming side old (ItemTypeDecl.flags d) new = (m : Meaning) × IsFlags d m
+HasItem numbering side old (ItemTypeDecl.flags d) new = (m : Meaning) × IsFlags d m
     × DeclaresIn side old d.id m old.resources new
-HasItem naming side old (ItemTypeDecl.enum d) new = (m : Meaning) × IsEnum d m
+HasItem numbering side old (ItemTypeDecl.enum d) new = (m : Meaning) × IsEnum d m
     × DeclaresIn side old d.id m old.resources new
-HasItem naming side old (ItemTypeDecl.alias d) new =
-    (m : Meaning) × (n : ℕ) × IsAlias (in_body naming) old.scope old.resources d.id.string d.kind m n
+HasItem numbering side old (ItemTypeDecl.alias d) new =
+    (m : Meaning) × (n : ℕ) × IsAlias (in_body numbering) old.scope old.resources d.id.string d.kind m n
     × DeclaresIn side old d.id m n new
 
 -- ---- use

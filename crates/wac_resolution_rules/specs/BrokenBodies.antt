@@ -10,7 +10,7 @@ use Rattle.wac_graph_types.specs.Meaning.{Meaning}
 use Rattle.wac_graph_types.specs.Scope.{Named, Scope, StandsFor, IsFresh}
 use Rattle.wac_graph_types.specs.Steps.{Fails}
 use Rattle.wac_graph_types.specs.Shape.{IsNoneOf, IsA, is_interface_form, is_resource_or_value_form, described, export_of, promoted}
-use Rattle.wac_graph.specs.Origin.{Naming}
+use Rattle.wac_graph.specs.Origin.{Numbering}
 use Rattle.wac_graph.specs.Resources.{resource_entry}
 use Rattle.wac_graph.specs.Packages.{Contents, package_of}
 use Rattle.wac_ast_grammar.specs.Tree.{Ident, PackagePath, UsePath, ResourceMethod, ItemTypeDecl, UseItem, Use}
@@ -126,24 +126,24 @@ MethodBroken side resource entry e old before (ResourceMethod.method x) =
 
 -- ---- declarations of types in a body
 
-abbrev pub ItemBroken : Naming → Owner → ExternKind → Named Span → Body → ItemTypeDecl → Error → Type 0
-ItemBroken naming of side places old (ItemTypeDecl.resource d) e =
+abbrev pub ItemBroken : Numbering → Owner → ExternKind → Named Span → Body → ItemTypeDecl → Error → Type 0
+ItemBroken numbering of side places old (ItemTypeDecl.resource d) e =
     NameBroken of side places old d.id e
     ⊎ (IsFresh d.id.string old.scope × IsFresh d.id.string (externs side old)
-    × Fails (HasMethod side d.id.string (resource_entry naming old.resources d.id.string))
-    (MethodBroken side d.id.string (resource_entry naming old.resources d.id.string) e)
-    (with_resource naming side old d.id.string) d.methods)
-ItemBroken naming of side places old (ItemTypeDecl.variant d) e = VariantBroken old.scope d e
+    × Fails (HasMethod side d.id.string (resource_entry numbering old.resources d.id.string))
+    (MethodBroken side d.id.string (resource_entry numbering old.resources d.id.string) e)
+    (with_resource numbering side old d.id.string) d.methods)
+ItemBroken numbering of side places old (ItemTypeDecl.variant d) e = VariantBroken old.scope d e
     ⊎ ((m : Meaning) × IsVariant old.scope d m × NameBroken of side places old d.id e)
-ItemBroken naming of side places old (ItemTypeDecl.record_decl d) e = RecordBroken old.scope d e
+ItemBroken numbering of side places old (ItemTypeDecl.record_decl d) e = RecordBroken old.scope d e
     ⊎ ((m : Meaning) × IsRecord old.scope d m × NameBroken of side places old d.id e)
-ItemBroken naming of side places old (ItemTypeDecl.flags d) e = FlagsBroken d e
+ItemBroken numbering of side places old (ItemTypeDecl.flags d) e = FlagsBroken d e
     ⊎ ((m : Meaning) × IsFlags d m × NameBroken of side places old d.id e)
-ItemBroken naming of side places old (ItemTypeDecl.enum d) e = EnumBroken d e
+ItemBroken numbering of side places old (ItemTypeDecl.enum d) e = EnumBroken d e
     ⊎ ((m : Meaning) × IsEnum d m × NameBroken of side places old d.id e)
-ItemBroken naming of side places old (ItemTypeDecl.alias d) e =
-    AliasBroken (in_body naming) old.scope old.resources d.id.string d.kind e
-    ⊎ ((m : Meaning) × (n : ℕ) × IsAlias (in_body naming) old.scope old.resources d.id.string d.kind m n
+ItemBroken numbering of side places old (ItemTypeDecl.alias d) e =
+    AliasBroken (in_body numbering) old.scope old.resources d.id.string d.kind e
+    ⊎ ((m : Meaning) × (n : ℕ) × IsAlias (in_body numbering) old.scope old.resources d.id.string d.kind m n
     × NameBroken of side places old d.id e)
 
 -- ---- use

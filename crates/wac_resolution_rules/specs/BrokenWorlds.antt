@@ -34,7 +34,7 @@ abbrev pub InterfaceItemBroken : Context → Scope → Owner → Error → Body 
 InterfaceItemBroken context root of e old before (InterfaceItem.use_statement u) =
     UseBroken context root sides.Export old u e
 InterfaceItemBroken context root of e old before (InterfaceItem.ty d) =
-    ItemBroken context.naming of sides.Export (bound_in_interface before) old d e
+    ItemBroken context.numbering of sides.Export (bound_in_interface before) old d e
 InterfaceItemBroken context root of e old before (InterfaceItem.interface_export x) =
     FuncRefBroken old.scope x.ty e
     ⊎ ((f : Meaning) × IsFuncRef old.scope x.ty f × IsConflict of sides.Export old x.id.string x.id.span e)
@@ -72,7 +72,7 @@ WorldItemBroken context root of e old before (WorldItem.world_export x) =
     ExternBroken context root of sides.Export old x.path e
 WorldItemBroken context root of e old before (WorldItem.world_include x) = ⊥
 WorldItemBroken context root of e old before (WorldItem.ty d) =
-    ItemBroken context.naming of sides.Import (bound_in_world before) old d e
+    ItemBroken context.numbering of sides.Import (bound_in_world before) old d e
 
 -- ---- include
 

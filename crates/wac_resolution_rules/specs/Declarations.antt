@@ -6,7 +6,7 @@ use Rattle.wac_graph_types.specs.Meaning.{Meaning}
 use Rattle.wac_graph_types.specs.Scope.{Named, Scope, StandsFor, IsFresh, with_named}
 use Rattle.wac_graph_types.specs.Steps.{Steps}
 use Rattle.wac_graph_types.specs.Shape.{form_of, kind_of, entry_of, as_value, nothing, defined_type, naming_each, alias_type}
-use Rattle.wac_graph.specs.Origin.{Naming}
+use Rattle.wac_graph.specs.Origin.{Numbering}
 use Rattle.wac_graph.specs.Resources.{alias_entry}
 use Rattle.wac_ast_grammar.specs.Tree.{Ident, Ty, VariantCase, VariantDecl, Field, RecordDecl, Flag, FlagsDecl, EnumCase, EnumDecl, TypeAliasKind, TypeDecl}
 use Rattle.wac_resolution_rules.specs.Types.{HasType, IsFunc}
@@ -71,14 +71,14 @@ Aliasing = ℕ → List ℕ → Meaning → Option Counted
 abbrev pub at_root : Aliasing
 at_root n name k = option_map (λ m. (m, n)) (alias_of k)
 
-abbrev pub in_body_of_form : Naming → Option Form → Aliasing
-in_body_of_form naming (Some a_resource) n name k =
-    Some (kind_of a_resource (alias_entry naming n name (entry_of k)), suc n)
-in_body_of_form naming _ n name k = at_root n name k
+abbrev pub in_body_of_form : Numbering → Option Form → Aliasing
+in_body_of_form numbering (Some a_resource) n name k =
+    Some (kind_of a_resource (alias_entry numbering n name (entry_of k)), suc n)
+in_body_of_form numbering _ n name k = at_root n name k
 
 -- in a body a resource may be aliased too: that is a new resource
-abbrev pub in_body : Naming → Aliasing
-in_body naming n name k = in_body_of_form naming (form_of k) n name k
+abbrev pub in_body : Numbering → Aliasing
+in_body numbering n name k = in_body_of_form numbering (form_of k) n name k
 
 -- the identifier that a type is
 abbrev pub alone : Ty → Option Ident

@@ -125,7 +125,7 @@ Agree ps qs ms = AllByRecursion (λ (m : Mention). package_of m.0 ps ≡ package
 
 -- the context with these packages
 abbrev pub over : Context → Packages → Context
-over s ps = record { naming = s.naming; own = s.own; version = s.version; packages = ps }
+over s ps = record { numbering = s.numbering; own = s.own; version = s.version; packages = ps }
 
 abbrev pub given_over : Given → Packages → Given
 given_over g ps = record { context = over g.context ps; rules = g.rules }

@@ -7,14 +7,14 @@ use Rattle.wac_graph_types.specs.Scope.{Scope, StandsFor}
 use Rattle.wac_graph_types.specs.Steps.{Steps}
 use Rattle.wac_graph_types.specs.Shape.{export_of}
 use Rattle.wac_graph.specs.Package.{Key}
-use Rattle.wac_graph.specs.Origin.{Naming}
+use Rattle.wac_graph.specs.Origin.{Numbering}
 use Rattle.wac_graph.specs.Packages.{Packages, Contents, package_of}
 use Rattle.wac_ast_grammar.specs.Tree.{PackagePath, UsePath, WorldRef}
 use Rattle.wac_ast_grammar.specs.Version.{is_slash, version_text}
 
 -- what a document is resolved in: numbers for origins, the document's own package, and the given packages
 pub record Context : Type 0 where
-  pub naming : Naming
+  pub numbering : Numbering
   pub own : List ℕ
   pub version : Option (List ℕ)
   pub packages : Packages

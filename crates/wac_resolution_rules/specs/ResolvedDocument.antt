@@ -3,9 +3,9 @@
 use Rattle.std.specs.Prelude.{◌≡◌, ◌↔◌, List, ◌∷◌, ◌++◌, Some, Result, Ok, Err, ◌⊎◌}
 use Rattle.wac_graph_types.specs.Steps.{Steps}
 use Rattle.wac_graph_types.specs.Package.{PackageParts}
-use Rattle.wac_graph.specs.Origin.{Naming, IsOneToOne}
+use Rattle.wac_graph.specs.Origin.{Numbering, IsOneToOne}
 use Rattle.wac_graph.specs.Package.{Key}
-use Rattle.wac_graph.specs.Packages.{handed}
+use Rattle.wac_graph.specs.Packages.{supplied_packages}
 use Rattle.wac_ast_grammar.specs.Tree.{PackageName, PackagePath, Statement, Document}
 use Rattle.wac_ast_grammar.specs.Version.{version_text}
 use Rattle.wac_resolution_rules.specs.Paths.{Context}
@@ -18,14 +18,14 @@ use Rattle.wac_resolution_rules.specs.BrokenStatements.{StatementBroken, TargetB
 use Rattle.wac_resolution_rules.specs.Places.{Leads, Placed, placed_start}
 
 -- the context of a document of this package: the given packages, by what they mean
-abbrev pub context_within : Naming → List (Key × PackageParts) → PackageName → Context
-context_within naming packages own =
-    record { naming = naming; own = own.name; version = version_text own.string; packages = handed naming packages }
+abbrev pub context_within : Numbering → List (Key × PackageParts) → PackageName → Context
+context_within numbering packages own =
+    record { numbering = numbering; own = own.name; version = version_text own.string; packages = supplied_packages numbering packages }
 
 -- what a document is resolved with
-abbrev pub given_to : Naming → List (Key × PackageParts) → Rules → Document → Given
-given_to naming packages rules doc =
-    record { context = context_within naming packages doc.directive.package_name; rules = rules }
+abbrev pub given_to : Numbering → List (Key × PackageParts) → Rules → Document → Given
+given_to numbering packages rules doc =
+    record { context = context_within numbering packages doc.directive.package_name; rules = rules }
 
 -- the document's statements have this composition, and the target allows it
 abbrev pub Describes : Given → Document → Composition → Type 0
@@ -33,8 +33,8 @@ Describes s doc c = Composes s start doc.statements c × MeetsTarget s c doc.dir
 
 -- the two documents describe the same, whatever the packages and the rules are
 abbrev pub DescribeAlike : Document → Document → Type 0
-DescribeAlike a b = (naming : Naming) (packages : List (Key × PackageParts)) (rules : Rules) (c : Composition)
-    → Describes (given_to naming packages rules a) a c ↔ Describes (given_to naming packages rules b) b c
+DescribeAlike a b = (numbering : Numbering) (packages : List (Key × PackageParts)) (rules : Rules) (c : Composition)
+    → Describes (given_to numbering packages rules a) a c ↔ Describes (given_to numbering packages rules b) b c
 
 -- the statements before it have a composition; with it there is none, for it breaks a rule
 pub record StatementFails (s : Given) (doc : Document) (e : Error) : Type 0 where
@@ -60,11 +60,11 @@ pub record TargetFails (s : Given) (doc : Document) (e : Error) : Type 0 where
 abbrev pub FirstFailing : Given → Document → Error → Type 0
 FirstFailing s doc e = StatementFails s doc e ⊎ TargetFails s doc e
 
--- ---- what resolving promises, for each naming that is one to one
+-- ---- what resolving promises, for each numbering that is one to one
 
--- under every naming of origins that is one to one
-abbrev pub EveryNaming : (Naming → Type 0) → Type 0
-EveryNaming P = (naming : Naming) → IsOneToOne naming → P naming
+-- under every numbering of origins that is one to one
+abbrev pub EveryNumbering : (Numbering → Type 0) → Type 0
+EveryNumbering P = (numbering : Numbering) → IsOneToOne numbering → P numbering
 
 -- what is returned is described
 abbrev pub GraphClause : Given → Document → Result Composition Error → Type 0

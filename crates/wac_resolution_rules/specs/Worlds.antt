@@ -25,7 +25,7 @@ IsFuncRef scope (FuncTypeRef.ident x) entry = (k : Meaning) × StandsFor scope x
 -- an item of an interface turns the old body into the new one
 abbrev pub HasInterfaceItem : Context → Scope → Body → InterfaceItem → Body → Type 0
 HasInterfaceItem context root old (InterfaceItem.use_statement u) new = HasUse context root sides.Export old u new
-HasInterfaceItem context root old (InterfaceItem.ty d) new = HasItem context.naming sides.Export old d new
+HasInterfaceItem context root old (InterfaceItem.ty d) new = HasItem context.numbering sides.Export old d new
 HasInterfaceItem context root old (InterfaceItem.interface_export x) new =
     (f : Meaning) × IsFuncRef old.scope x.ty f × IsFresh x.id.string old.exports
     × (new ≡ with_extern sides.Export old x.id.string (kind_of func f))
@@ -74,7 +74,7 @@ HasWorldItem context root old (WorldItem.use_statement u) new = HasUse context r
 HasWorldItem context root old (WorldItem.world_import x) new = HasExtern context root sides.Import old x.path new
 HasWorldItem context root old (WorldItem.world_export x) new = HasExtern context root sides.Export old x.path new
 HasWorldItem context root old (WorldItem.world_include x) new = new ≡ old
-HasWorldItem context root old (WorldItem.ty d) new = HasItem context.naming sides.Import old d new
+HasWorldItem context root old (WorldItem.ty d) new = HasItem context.numbering sides.Import old d new
 
 abbrev pub include_in : WorldItem → Option WorldInclude
 include_in (WorldItem.world_include x) = Some x

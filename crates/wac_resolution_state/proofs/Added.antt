@@ -1,5 +1,5 @@
 -- What is added to the types of a graph.
-use Rattle.wac_resolution_state.proofs.Common.{◌≡◌, ◌∙◌, ℕ, List, [], ◌∷◌, Option, Some, None, refl, sym, ap, subst, arith, slice_get, option_map, option_and_then, string_bytes, IfSome, ResourceId, children, sort_of, alias_children, Meaning, node, row, of_child, EachKind, Names, EachEntryNamed, Parts, entry_means, declared_count, origin_at, EntriesMean, Naming, declared}
+use Rattle.wac_resolution_state.proofs.Common.{◌≡◌, ◌∙◌, ℕ, List, [], ◌∷◌, Option, Some, None, refl, sym, ap, subst, arith, slice_get, option_map, option_and_then, string_bytes, IfSome, ResourceId, children, sort_of, alias_children, Meaning, node, row, of_child, EachKind, Names, EachEntryNamed, Parts, entry_means, declared_count, origin_at, EntriesMean, Numbering, declared}
 use Rattle.wac_graph_types.specs.declared.kind.ItemKind.TheVariants as kinds
 use Rattle.wac_graph_types.specs.declared.kind.«Type».TheVariants as types
 use Rattle.wac_graph_types.specs.declared.kind.ValueType.TheVariants as values
@@ -30,72 +30,72 @@ added_grows : (old new : Parts) (e : Entry) (id : ℕ) → Adds old new e id →
 added_grows old new e id a = record {
   same = a.is ∙ ap (λ (l : List Entry). record old { types = l }) (sym (ap (λ (g : Parts). g.types) a.is));
   named = a.names;
-  kinds = λ naming k h. a.kinds naming k h.0;
+  kinds = λ numbering k h. a.kinds numbering k h.0;
 }
 
 -- the new entry, over what the old graph means
-added_means : (old new : Parts) (e : Entry) (id : ℕ) → Adds old new e id → (naming : Naming) → entry_means naming new id ≡ entry_over (entry_means naming old) (naming (declared (declared_count old))) e
-added_means old new e id a naming = ap (entry_means naming new) a.number ∙ a.means naming
+added_means : (old new : Parts) (e : Entry) (id : ℕ) → Adds old new e id → (numbering : Numbering) → entry_means numbering new id ≡ entry_over (entry_means numbering old) (numbering (declared (declared_count old))) e
+added_means old new e id a numbering = ap (entry_means numbering new) a.number ∙ a.means numbering
 
 pub adds_defined : (old new : Parts) (d : DefinedType) (id : DefinedTypeId) → Adds old new (entries.Defined d) id.0 → Names new.types (kinds.Value (values.Defined id)) → AddsDefined old new d (values.Defined id)
 adds_defined old new d id a there = record {
   grows = record { grows = added_grows old new (entries.Defined d) id.0 a; count = omega (arith, a.count) };
   named = there;
-  is = λ naming. ap (kind_of (value defined)) (added_means old new (entries.Defined d) id.0 a naming ∙ defined_is (entry_means naming old) (naming (declared (declared_count old))) d);
+  is = λ numbering. ap (kind_of (value defined)) (added_means old new (entries.Defined d) id.0 a numbering ∙ defined_is (entry_means numbering old) (numbering (declared (declared_count old))) d);
 }
 
 pub adds_func : (old new : Parts) (f : FuncType) (id : FuncTypeId) → Adds old new (entries.Func f) id.0 → Names new.types (kinds.Func id)
-    → AddsFunc old new (λ naming. func_entry f.is_async (results_mean (entry_means naming old) f.results) (values_mean (entry_means naming old) (by_name f.params.entries))) id
+    → AddsFunc old new (λ numbering. func_entry f.is_async (results_mean (entry_means numbering old) f.results) (values_mean (entry_means numbering old) (by_name f.params.entries))) id
 adds_func old new f id a there = record {
   grows = record { grows = added_grows old new (entries.Func f) id.0 a; count = omega (arith, a.count) };
   named = there;
-  is = λ naming. added_means old new (entries.Func f) id.0 a naming ∙ func_is (entry_means naming old) (naming (declared (declared_count old))) f;
+  is = λ numbering. added_means old new (entries.Func f) id.0 a numbering ∙ func_is (entry_means numbering old) (numbering (declared (declared_count old))) f;
 }
 
 pub adds_interface : (old new : Parts) (i : Interface) (id : InterfaceId) → Adds old new (entries.Interface i) id.0 → Names new.types (kinds.Instance id)
-    → AddsInterface old new (λ naming. interface_entry (option_map string_bytes i.id) (uses_mean (entry_means naming old) (by_name i.uses.entries)) (items_mean (entry_means naming old) (by_name i.exports.entries))) id
+    → AddsInterface old new (λ numbering. interface_entry (option_map string_bytes i.id) (uses_mean (entry_means numbering old) (by_name i.uses.entries)) (items_mean (entry_means numbering old) (by_name i.exports.entries))) id
 adds_interface old new i id a there = record {
   grows = record { grows = added_grows old new (entries.Interface i) id.0 a; count = omega (arith, a.count) };
   named = there;
-  is = λ naming. added_means old new (entries.Interface i) id.0 a naming ∙ interface_is (entry_means naming old) (naming (declared (declared_count old))) i;
+  is = λ numbering. added_means old new (entries.Interface i) id.0 a numbering ∙ interface_is (entry_means numbering old) (numbering (declared (declared_count old))) i;
 }
 
 pub adds_world : (old new : Parts) (w : World) (id : WorldId) → Adds old new (entries.World w) id.0 → Names new.types (kinds.Component id)
-    → AddsWorld old new (λ naming. world_entry (option_map string_bytes w.id) (uses_mean (entry_means naming old) (by_name w.uses.entries)) (items_mean (entry_means naming old) (by_name w.imports.entries)) (items_mean (entry_means naming old) (by_name w.exports.entries))) id
+    → AddsWorld old new (λ numbering. world_entry (option_map string_bytes w.id) (uses_mean (entry_means numbering old) (by_name w.uses.entries)) (items_mean (entry_means numbering old) (by_name w.imports.entries)) (items_mean (entry_means numbering old) (by_name w.exports.entries))) id
 adds_world old new w id a there = record {
   grows = record { grows = added_grows old new (entries.World w) id.0 a; count = omega (arith, a.count) };
   named = there;
-  is = λ naming. added_means old new (entries.World w) id.0 a naming ∙ world_is (entry_means naming old) (naming (declared (declared_count old))) w;
+  is = λ numbering. added_means old new (entries.World w) id.0 a numbering ∙ world_is (entry_means numbering old) (numbering (declared (declared_count old))) w;
 }
 
 pub adds_resource : (old new : Parts) (r : Resource) (name : List ℕ) (id : ResourceId) → r.alias ≡ None → string_bytes r.name ≡ name → Adds old new (entries.Resource r) id.0 → Names new.types (kinds.Ty (types.Resource id))
-    → AddsResource old new (λ naming. resource_entry naming (declared_count old) name) id
+    → AddsResource old new (λ numbering. resource_entry numbering (declared_count old) name) id
 adds_resource old new r name id alone named a there = record {
   grows = added_grows old new (entries.Resource r) id.0 a;
   count = omega (arith, a.count);
   named = there;
-  is = λ naming. added_means old new (entries.Resource r) id.0 a naming
-      ∙ ap (λ (n : List ℕ). node (resource (naming (declared (declared_count old))) n) (row (entry_means naming old) (alias_children r.alias))) named
-      ∙ ap (λ (x : Option ResourceAlias). node (resource (naming (declared (declared_count old))) name) (row (entry_means naming old) (alias_children x))) alone;
+  is = λ numbering. added_means old new (entries.Resource r) id.0 a numbering
+      ∙ ap (λ (n : List ℕ). node (resource (numbering (declared (declared_count old))) n) (row (entry_means numbering old) (alias_children r.alias))) named
+      ∙ ap (λ (x : Option ResourceAlias). node (resource (numbering (declared (declared_count old))) name) (row (entry_means numbering old) (alias_children x))) alone;
 }
 
 -- ---- aliases of resources
 
 pub adds_alias : (old new : Parts) (r : Resource) (name : List ℕ) (from : ResourceId) (owner : Option InterfaceId) (id : ResourceId) → r.alias ≡ Some (record { owner = owner; source = from }) → string_bytes r.name ≡ name
-    → ((naming : Naming) → of_child (entry_means naming old) (option_map (λ i. kinds.Instance i) owner) ≡ owner_of (entry_means naming old from.0))
+    → ((numbering : Numbering) → of_child (entry_means numbering old) (option_map (λ i. kinds.Instance i) owner) ≡ owner_of (entry_means numbering old from.0))
     → Adds old new (entries.Resource r) id.0 → Names new.types (kinds.Ty (types.Resource id))
-    → AddsResource old new (λ naming. alias_entry naming (declared_count old) name (entry_means naming old from.0)) id
+    → AddsResource old new (λ numbering. alias_entry numbering (declared_count old) name (entry_means numbering old from.0)) id
 adds_alias old new r name from owner id alias named owned a there = record {
   grows = added_grows old new (entries.Resource r) id.0 a;
   count = omega (arith, a.count);
   named = there;
-  is = λ naming.
-      let f : ℕ → Meaning = entry_means naming old in
-      let origin : ℕ = naming (declared (declared_count old)) in
-      added_means old new (entries.Resource r) id.0 a naming
+  is = λ numbering.
+      let f : ℕ → Meaning = entry_means numbering old in
+      let origin : ℕ = numbering (declared (declared_count old)) in
+      added_means old new (entries.Resource r) id.0 a numbering
       ∙ ap (λ (n : List ℕ). node (resource origin n) (row f (alias_children r.alias))) named
       ∙ ap (λ (x : Option ResourceAlias). node (resource origin name) (row f (alias_children x))) alias
-      ∙ ap (λ (m : Meaning). node (resource origin name) (Rattle.wac_graph_types.specs.Meaning.Row.more Rattle.wac_graph_types.specs.Entry.Slot.owner m (row f ((Rattle.wac_graph_types.specs.Entry.Slot.source, Some (kinds.Ty (types.Resource from))) ∷ [])))) (owned naming);
+      ∙ ap (λ (m : Meaning). node (resource origin name) (Rattle.wac_graph_types.specs.Meaning.Row.more Rattle.wac_graph_types.specs.Entry.Slot.owner m (row f ((Rattle.wac_graph_types.specs.Entry.Slot.source, Some (kinds.Ty (types.Resource from))) ∷ [])))) (owned numbering);
 }
 
 pub alias_kinds : (ts : List Entry) (x : Option ResourceAlias) (owner : Option InterfaceId) (from : ResourceId) → x ≡ Some (record { owner = owner; source = from })
@@ -119,13 +119,13 @@ alias_owner f origin name None = refl
 alias_owner f origin name (Some a) = refl
 
 pub owner_means : (g : Parts) (id : ResourceId) (result : Option InterfaceId) → EntriesMean g → Names g.types (kinds.Ty (types.Resource id)) → result ≡ owner_in (slice_get g.types id.0)
-    → (naming : Naming) → of_child (entry_means naming g) (option_map (λ i. kinds.Instance i) result) ≡ owner_of (entry_means naming g id.0)
-owner_means g id result law named is naming =
+    → (numbering : Numbering) → of_child (entry_means numbering g) (option_map (λ i. kinds.Instance i) result) ≡ owner_of (entry_means numbering g id.0)
+owner_means g id result law named is numbering =
     let r = is_resource (slice_get g.types id.0) named.1 in
     let read : result ≡ option_and_then (λ (a : ResourceAlias). a.owner) r.0.alias = is ∙ ap owner_in r.1 in
-    ap (λ (o : Option InterfaceId). of_child (entry_means naming g) (option_map (λ i. kinds.Instance i) o)) read
-    ∙ alias_owner (entry_means naming g) (naming (origin_at g id.0)) (string_bytes r.0.name) r.0.alias
-    ∙ sym (ap owner_of (law naming id.0 (entries.Resource r.0) r.1))
+    ap (λ (o : Option InterfaceId). of_child (entry_means numbering g) (option_map (λ i. kinds.Instance i) o)) read
+    ∙ alias_owner (entry_means numbering g) (numbering (origin_at g id.0)) (string_bytes r.0.name) r.0.alias
+    ∙ sym (ap owner_of (law numbering id.0 (entries.Resource r.0) r.1))
 
 alias_owner_named : (ts : List Entry) (x : Option ResourceAlias) → EachKind (Names ts) (alias_children x) → IfSome (option_map (λ i. kinds.Instance i) (option_and_then (λ (a : ResourceAlias). a.owner) x)) (Names ts)
 alias_owner_named ts None h = tt

@@ -9,7 +9,7 @@ pub use Rattle.std.specs.Prelude.{IfErr, IfOk, IfSome, IsSome, MatchOption, Resu
 pub use Rattle.std.specs.Str.{bytes_eq}
 pub use Rattle.std.specs.declared.alloc.Global.{Global}
 pub use Rattle.wac_ast_base.specs.Names.{ident_of, package_path_of}
-pub use Rattle.wac_ast_grammar.specs.Segments.{behind, located, package_name_span, segment_spans}
+pub use Rattle.wac_ast_grammar.specs.Segments.{after, located, package_name_span, segment_spans}
 pub use Rattle.wac_ast_grammar.specs.Tree.{Ident, PackagePath, PostfixExpr}
 pub use Rattle.wac_ast_statements.specs.Expressions.{postfix_expr_of}
 pub use Rattle.wac_ast_uses.specs.Uses.{use_path_of, world_ref_of}
@@ -17,9 +17,9 @@ pub use Rattle.wac_graph.proofs.Keys.{keys_same}
 pub use Rattle.wac_graph.proofs.Lists.{all_implies, all_more, get_kept, get_last}
 pub use Rattle.wac_graph.specs.Graph.{Parts, export_kind}
 pub use Rattle.wac_graph.specs.Means.{EntriesMean, KeepsKinds, declared_count, entry_means, means, origin_at}
-pub use Rattle.wac_graph.specs.Origin.{Naming, declared}
+pub use Rattle.wac_graph.specs.Origin.{Numbering, declared}
 pub use Rattle.wac_graph.specs.Package.{HeldPackage, IsHeld, Key, key_of, moved_package, package_keyed, same_key, same_version}
-pub use Rattle.wac_graph.specs.Packages.{Contents, contents_in, contents_of, handed, package_of}
+pub use Rattle.wac_graph.specs.Packages.{Contents, contents_in, contents_of, supplied_packages, package_of}
 pub use Rattle.wac_graph.specs.Readings.{held_of}
 pub use Rattle.wac_graph.specs.Sound.{IsPlaced, IsSound, IsSoundNode, imports_from}
 pub use Rattle.wac_graph.specs.declared.node.NodeId.{NodeId}
@@ -38,7 +38,7 @@ pub use Rattle.wac_graph_types.specs.declared.kind.ResourceId.{ResourceId}
 pub use Rattle.wac_lexer.specs.Span.{Span}
 pub use Rattle.wac_resolution_errors.proofs.Reports.{if_reports, reports}
 pub use Rattle.wac_resolution_errors.specs.Error.{Error, Operation, Reports, duplicate_name, missing_instance_export, not_an_instance, package_missing_export, package_path_missing_export, unknown_package}
-pub use Rattle.wac_resolution_errors.specs.Told.{operation_of, told}
+pub use Rattle.wac_resolution_errors.specs.ErrorModel.{operation_of, error_model}
 pub use Rattle.wac_resolution_rules.proofs.StepLaws.{fails_at, steps_on}
 pub use Rattle.wac_resolution_rules.specs.BrokenBodies.{ForeignPathBroken, IsNoExport, IsNoPackageExport, OwnPathBroken, PathBroken, StandsAt, UsePathBroken, last_of, path_broken}
 pub use Rattle.wac_resolution_rules.specs.BrokenTypes.{IsUndefined}

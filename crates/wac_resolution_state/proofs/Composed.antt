@@ -1,5 +1,5 @@
 -- The composition as its graph grows.
-use Rattle.wac_resolution_state.proofs.Common.{◌≡◌, ◌∙◌, ◌<◌, ℕ, zero, suc, List, [], ◌∷◌, ◌++◌, Option, Some, None, refl, sym, ap, subst, map, length, arith, true, false, Bor, slice_get, slice_set, option_map, option_and_then, unwrap_or, is_some, IfSome, IsSome, AllByRecursion, position, map_push, length-map, slice_get-map, slice_get_within, ItemKind, KeepsNames, Meaning, Named, with_named, Names, HeldPackage, means, declared_count, Naming, IsSound, IsSoundNode, IsPlaced, Composition, Node, NodeForm, imported, definition, aliased, with_node, with_export, with_resources, named_at, first_name, at, is_alias_of, alias_in, alias_number, next_of, with_alias, with_instance}
+use Rattle.wac_resolution_state.proofs.Common.{◌≡◌, ◌∙◌, ◌<◌, ℕ, zero, suc, List, [], ◌∷◌, ◌++◌, Option, Some, None, refl, sym, ap, subst, map, length, arith, true, false, Bor, slice_get, slice_set, option_map, option_and_then, unwrap_or, is_some, IfSome, IsSome, AllByRecursion, position, map_push, length-map, slice_get-map, slice_get_within, ItemKind, KeepsNames, Meaning, Named, with_named, Names, HeldPackage, means, declared_count, Numbering, IsSound, IsSoundNode, IsPlaced, Composition, Node, NodeForm, imported, definition, aliased, with_node, with_export, with_resources, named_at, first_name, at, is_alias_of, alias_in, alias_number, next_of, with_alias, with_instance}
 use Rattle.wac_resolution_state.specs.Growth.{Grows}
 use Rattle.std.proofs.lemmas.List.Quantifiers.{position-Some}
 use Rattle.wac_graph.specs.Node.{Node as GraphNode, Form, import, definition as defined, alias, instantiation, package_in, arguments_in, is_alias_of as is_alias_in}
@@ -46,36 +46,36 @@ form_kept old new held (alias node export) h = refl
 form_kept old new held (instantiation p arguments) h = ap instance_form (instance_kept old new held p h)
 
 -- a node still means the same
-node_kept : (old new : Parts) (naming : Naming) → ((i : ℕ) (p : HeldPackage) → slice_get old.packages i ≡ Some p → slice_get new.packages i ≡ Some p)
-    → ((k : ItemKind) → Names old.types k → means naming new k ≡ means naming old k) → (n : GraphNode) → Stands old n → node_of naming new n ≡ node_of naming old n
-node_kept old new naming held kinds n h =
-    ap (λ (f : NodeForm). record { form = f; kind = means naming new n.kind; name = n.name; arguments = arguments_in n.form }) (form_kept old.packages new.packages held n.form h.held)
+node_kept : (old new : Parts) (numbering : Numbering) → ((i : ℕ) (p : HeldPackage) → slice_get old.packages i ≡ Some p → slice_get new.packages i ≡ Some p)
+    → ((k : ItemKind) → Names old.types k → means numbering new k ≡ means numbering old k) → (n : GraphNode) → Stands old n → node_of numbering new n ≡ node_of numbering old n
+node_kept old new numbering held kinds n h =
+    ap (λ (f : NodeForm). record { form = f; kind = means numbering new n.kind; name = n.name; arguments = arguments_in n.form }) (form_kept old.packages new.packages held n.form h.held)
     ∙ ap (λ (m : Meaning). record { form = form_in old.packages n.form; kind = m; name = n.name; arguments = arguments_in n.form }) (kinds n.kind h.kind)
 
-nodes_kept : (old new : Parts) (naming : Naming) → ((i : ℕ) (p : HeldPackage) → slice_get old.packages i ≡ Some p → slice_get new.packages i ≡ Some p)
-    → ((k : ItemKind) → Names old.types k → means naming new k ≡ means naming old k) → (ns : List GraphNode) → AllByRecursion (Stands old) ns → map (node_of naming new) ns ≡ map (node_of naming old) ns
-nodes_kept old new naming held kinds [] h = refl
-nodes_kept old new naming held kinds (n ∷ ns) h =
-    ap (λ (x : Node). x ∷ map (node_of naming new) ns) (node_kept old new naming held kinds n h.0)
-    ∙ ap (λ (l : List Node). node_of naming old n ∷ l) (nodes_kept old new naming held kinds ns h.1)
+nodes_kept : (old new : Parts) (numbering : Numbering) → ((i : ℕ) (p : HeldPackage) → slice_get old.packages i ≡ Some p → slice_get new.packages i ≡ Some p)
+    → ((k : ItemKind) → Names old.types k → means numbering new k ≡ means numbering old k) → (ns : List GraphNode) → AllByRecursion (Stands old) ns → map (node_of numbering new) ns ≡ map (node_of numbering old) ns
+nodes_kept old new numbering held kinds [] h = refl
+nodes_kept old new numbering held kinds (n ∷ ns) h =
+    ap (λ (x : Node). x ∷ map (node_of numbering new) ns) (node_kept old new numbering held kinds n h.0)
+    ∙ ap (λ (l : List Node). node_of numbering old n ∷ l) (nodes_kept old new numbering held kinds ns h.1)
 
 -- where only types and packages were added, the composition has at most more resources
-pub composition_expands : (old new : Parts) (declared : Named ℕ) (naming : Naming) → new ≡ record old { types = new.types; packages = new.packages }
-    → ((i : ℕ) (p : HeldPackage) → slice_get old.packages i ≡ Some p → slice_get new.packages i ≡ Some p) → ((k : ItemKind) → Names old.types k → means naming new k ≡ means naming old k) → NodesStand old
-    → composition_of naming new declared ≡ with_resources (composition_of naming old declared) (declared_count new)
-composition_expands old new declared naming same held kinds h =
+pub composition_expands : (old new : Parts) (declared : Named ℕ) (numbering : Numbering) → new ≡ record old { types = new.types; packages = new.packages }
+    → ((i : ℕ) (p : HeldPackage) → slice_get old.packages i ≡ Some p → slice_get new.packages i ≡ Some p) → ((k : ItemKind) → Names old.types k → means numbering new k ≡ means numbering old k) → NodesStand old
+    → composition_of numbering new declared ≡ with_resources (composition_of numbering old declared) (declared_count new)
+composition_expands old new declared numbering same held kinds h =
     let nodes : new.nodes ≡ old.nodes = ap (λ (p : Parts). p.nodes) same in
     let exports : new.exports ≡ old.exports = ap (λ (p : Parts). p.exports) same in
-    let mean : map (node_of naming new) new.nodes ≡ map (node_of naming old) old.nodes = ap (map (node_of naming new)) nodes ∙ nodes_kept old new naming held kinds old.nodes h in
+    let mean : map (node_of numbering new) new.nodes ≡ map (node_of numbering old) old.nodes = ap (map (node_of numbering new)) nodes ∙ nodes_kept old new numbering held kinds old.nodes h in
     ap (λ (ns : List Node). record { nodes = ns; exports = new.exports; declared = declared; resources = declared_count new }) mean
-    ∙ ap (λ (es : Named ℕ). record { nodes = map (node_of naming old) old.nodes; exports = es; declared = declared; resources = declared_count new }) exports
+    ∙ ap (λ (es : Named ℕ). record { nodes = map (node_of numbering old) old.nodes; exports = es; declared = declared; resources = declared_count new }) exports
 
 -- where only types were added
-pub composition_grows : (old new : Parts) (declared : Named ℕ) (naming : Naming) → Grows old new → NodesStand old → composition_of naming new declared ≡ with_resources (composition_of naming old declared) (declared_count new)
-composition_grows old new declared naming g h =
+pub composition_grows : (old new : Parts) (declared : Named ℕ) (numbering : Numbering) → Grows old new → NodesStand old → composition_of numbering new declared ≡ with_resources (composition_of numbering old declared) (declared_count new)
+composition_grows old new declared numbering g h =
     let packages : new.packages ≡ old.packages = ap (λ (p : Parts). p.packages) g.same in
     let same : new ≡ record old { types = new.types; packages = new.packages } = g.same ∙ ap (λ (ps : List HeldPackage). record old { types = new.types; packages = ps }) (sym packages) in
-    composition_expands old new declared naming same (λ i p is. ap (λ (ps : List HeldPackage). slice_get ps i) packages ∙ is) (g.kinds naming) h
+    composition_expands old new declared numbering same (λ i p is. ap (λ (ps : List HeldPackage). slice_get ps i) packages ∙ is) (g.kinds numbering) h
 
 -- in a graph with more types and packages the kinds and the packages of nodes still exist
 each_still_stands : (old new : Parts) → ((i : ℕ) (p : HeldPackage) → slice_get old.packages i ≡ Some p → slice_get new.packages i ≡ Some p) → KeepsNames old.types new.types → (ns : List GraphNode)
@@ -98,24 +98,24 @@ still_stand old new same held named h = subst (λ (ns : List GraphNode). AllByRe
 -- ---- one more node
 
 -- the number of the node that comes next
-pub next_is : (naming : Naming) (g : Parts) (declared : Named ℕ) → next_of (composition_of naming g declared) ≡ length g.nodes
-next_is naming g declared = length-map g.nodes (node_of naming g)
+pub next_is : (numbering : Numbering) (g : Parts) (declared : Named ℕ) → next_of (composition_of numbering g declared) ≡ length g.nodes
+next_is numbering g declared = length-map g.nodes (node_of numbering g)
 
-added : (g : Parts) (declared : Named ℕ) (naming : Naming) (n : GraphNode) → composition_of naming (record g { nodes = g.nodes ++ n ∷ [] }) declared ≡ record (composition_of naming g declared) { nodes = map (node_of naming g) g.nodes ++ node_of naming g n ∷ [] }
-added g declared naming n = ap (λ (ns : List Node). record { nodes = ns; exports = g.exports; declared = declared; resources = declared_count g }) (map_push (node_of naming g) g.nodes n)
+added : (g : Parts) (declared : Named ℕ) (numbering : Numbering) (n : GraphNode) → composition_of numbering (record g { nodes = g.nodes ++ n ∷ [] }) declared ≡ record (composition_of numbering g declared) { nodes = map (node_of numbering g) g.nodes ++ node_of numbering g n ∷ [] }
+added g declared numbering n = ap (λ (ns : List Node). record { nodes = ns; exports = g.exports; declared = declared; resources = declared_count g }) (map_push (node_of numbering g) g.nodes n)
 
-pub composition_imports : (g : Parts) (declared : Named ℕ) (name : List ℕ) (k : ItemKind) (naming : Naming) → composition_of naming (with_import g name k) declared ≡ with_node (composition_of naming g declared) (imported name) (means naming g k)
-composition_imports g declared name k naming = added g declared naming (plain_node (import name) k)
+pub composition_imports : (g : Parts) (declared : Named ℕ) (name : List ℕ) (k : ItemKind) (numbering : Numbering) → composition_of numbering (with_import g name k) declared ≡ with_node (composition_of numbering g declared) (imported name) (means numbering g k)
+composition_imports g declared name k numbering = added g declared numbering (plain_node (import name) k)
 
 -- a definition is exported too
-pub composition_defines : (g : Parts) (declared : Named ℕ) (name : List ℕ) (k : ItemKind) (naming : Naming)
-    → composition_of naming (with_definition g name k) declared ≡ with_export (with_node (composition_of naming g declared) definition (means naming g k)) name (next_of (composition_of naming g declared))
-composition_defines g declared name k naming =
-    ap (λ (ns : List Node). record { nodes = ns; exports = with_named g.exports name (length g.nodes); declared = declared; resources = declared_count g }) (map_push (node_of naming g) g.nodes (plain_node defined k))
-    ∙ ap (λ (n : ℕ). record { nodes = map (node_of naming g) g.nodes ++ node_of naming g (plain_node defined k) ∷ []; exports = with_named g.exports name n; declared = declared; resources = declared_count g }) (sym (next_is naming g declared))
+pub composition_defines : (g : Parts) (declared : Named ℕ) (name : List ℕ) (k : ItemKind) (numbering : Numbering)
+    → composition_of numbering (with_definition g name k) declared ≡ with_export (with_node (composition_of numbering g declared) definition (means numbering g k)) name (next_of (composition_of numbering g declared))
+composition_defines g declared name k numbering =
+    ap (λ (ns : List Node). record { nodes = ns; exports = with_named g.exports name (length g.nodes); declared = declared; resources = declared_count g }) (map_push (node_of numbering g) g.nodes (plain_node defined k))
+    ∙ ap (λ (n : ℕ). record { nodes = map (node_of numbering g) g.nodes ++ node_of numbering g (plain_node defined k) ∷ []; exports = with_named g.exports name n; declared = declared; resources = declared_count g }) (sym (next_is numbering g declared))
 
-pub composition_exports : (g : Parts) (declared : Named ℕ) (name : List ℕ) (node : ℕ) (naming : Naming) → composition_of naming (export_too g name node) declared ≡ with_export (composition_of naming g declared) name node
-composition_exports g declared name node naming = refl
+pub composition_exports : (g : Parts) (declared : Named ℕ) (name : List ℕ) (node : ℕ) (numbering : Numbering) → composition_of numbering (export_too g name node) declared ≡ with_export (composition_of numbering g declared) name node
+composition_exports g declared name node numbering = refl
 
 -- ---- instances
 
@@ -137,11 +137,11 @@ instance_given g p k arguments name value =
     ap (λ (o : Option GraphNode). record g { nodes = elim o [ None ↦ g.nodes ++ last ∷ [] | Some n ↦ slice_set (g.nodes ++ last ∷ []) (length g.nodes) (record n { form = given_too n.form name value }) ] }) (get_last g.nodes last)
     ∙ ap (λ (ns : List GraphNode). record g { nodes = ns }) (set_last g.nodes last (record { form = instantiation p (with_named arguments name value); kind = k; name = None }))
 
-pub composition_instance : (g : Parts) (declared : Named ℕ) (p : ℕ) (k : ItemKind) (arguments : Named ℕ) (naming : Naming) (of : HeldPackage) → slice_get g.packages p ≡ Some of
-    → composition_of naming (instance_with g p k arguments) declared ≡ with_instance (composition_of naming g declared) of.key (means naming g k) arguments
-composition_instance g declared p k arguments naming of held =
-    added g declared naming (record { form = instantiation p arguments; kind = k; name = None })
-    ∙ ap (λ (o : Option HeldPackage). record (composition_of naming g declared) { nodes = map (node_of naming g) g.nodes ++ record { form = instance_form o; kind = means naming g k; name = None; arguments = arguments } ∷ [] }) held
+pub composition_instance : (g : Parts) (declared : Named ℕ) (p : ℕ) (k : ItemKind) (arguments : Named ℕ) (numbering : Numbering) (of : HeldPackage) → slice_get g.packages p ≡ Some of
+    → composition_of numbering (instance_with g p k arguments) declared ≡ with_instance (composition_of numbering g declared) of.key (means numbering g k) arguments
+composition_instance g declared p k arguments numbering of held =
+    added g declared numbering (record { form = instantiation p arguments; kind = k; name = None })
+    ∙ ap (λ (o : Option HeldPackage). record (composition_of numbering g declared) { nodes = map (node_of numbering g) g.nodes ++ record { form = instance_form o; kind = means numbering g k; name = None; arguments = arguments } ∷ [] }) held
 
 -- ---- names of nodes
 
@@ -151,30 +151,30 @@ set_same {X} (z ∷ xs) zero x h = (let same : z ≡ x = cc in ap (λ (y : X). y
 set_same {X} (z ∷ xs) (suc i) x h = ap (λ (l : List X). z ∷ l) (set_same xs i x h)
 
 -- the nodes of the composition, where one gets a name if it had none
-named_in : (naming : Naming) (g : Parts) (node : ℕ) (n : GraphNode) (name : List ℕ) → slice_get g.nodes node ≡ Some n
-    → named_at (map (node_of naming g) g.nodes) node name ≡ slice_set (map (node_of naming g) g.nodes) node (record (node_of naming g n) { name = first_name n.name name })
-named_in naming g node n name at =
-    ap (λ (o : Option Node). elim o [ None ↦ map (node_of naming g) g.nodes | Some x ↦ slice_set (map (node_of naming g) g.nodes) node (record x { name = first_name x.name name }) ])
-    (slice_get-map (node_of naming g) g.nodes node ∙ ap (option_map (node_of naming g)) at)
+named_in : (numbering : Numbering) (g : Parts) (node : ℕ) (n : GraphNode) (name : List ℕ) → slice_get g.nodes node ≡ Some n
+    → named_at (map (node_of numbering g) g.nodes) node name ≡ slice_set (map (node_of numbering g) g.nodes) node (record (node_of numbering g n) { name = first_name n.name name })
+named_in numbering g node n name at =
+    ap (λ (o : Option Node). elim o [ None ↦ map (node_of numbering g) g.nodes | Some x ↦ slice_set (map (node_of numbering g) g.nodes) node (record x { name = first_name x.name name }) ])
+    (slice_get-map (node_of numbering g) g.nodes node ∙ ap (option_map (node_of numbering g)) at)
 
-pub node_named : (naming : Naming) (g : Parts) (declared : Named ℕ) (node : ℕ) (n : GraphNode) (name : List ℕ) → slice_get g.nodes node ≡ Some n → n.name ≡ None
-    → composition_of naming (with_name g node name) declared ≡ record (composition_of naming g declared) { nodes = named_at (composition_of naming g declared).nodes node name }
-node_named naming g declared node n name at unnamed =
-    ap (λ (o : Option GraphNode). composition_of naming (record g { nodes = elim o [ None ↦ g.nodes | Some x ↦ slice_set g.nodes node (record x { name = Some name }) ] }) declared) at
-    ∙ ap (λ (ns : List Node). record (composition_of naming g declared) { nodes = ns })
-    (map_set (node_of naming g) g.nodes node (record n { name = Some name })
-    ∙ ap (λ (o : Option (List ℕ)). slice_set (map (node_of naming g) g.nodes) node (record (node_of naming g n) { name = first_name o name })) (sym unnamed)
-    ∙ sym (named_in naming g node n name at))
+pub node_named : (numbering : Numbering) (g : Parts) (declared : Named ℕ) (node : ℕ) (n : GraphNode) (name : List ℕ) → slice_get g.nodes node ≡ Some n → n.name ≡ None
+    → composition_of numbering (with_name g node name) declared ≡ record (composition_of numbering g declared) { nodes = named_at (composition_of numbering g declared).nodes node name }
+node_named numbering g declared node n name at unnamed =
+    ap (λ (o : Option GraphNode). composition_of numbering (record g { nodes = elim o [ None ↦ g.nodes | Some x ↦ slice_set g.nodes node (record x { name = Some name }) ] }) declared) at
+    ∙ ap (λ (ns : List Node). record (composition_of numbering g declared) { nodes = ns })
+    (map_set (node_of numbering g) g.nodes node (record n { name = Some name })
+    ∙ ap (λ (o : Option (List ℕ)). slice_set (map (node_of numbering g) g.nodes) node (record (node_of numbering g n) { name = first_name o name })) (sym unnamed)
+    ∙ sym (named_in numbering g node n name at))
 
-pub name_kept : (naming : Naming) (g : Parts) (declared : Named ℕ) (node : ℕ) (n : GraphNode) (name old : List ℕ) → slice_get g.nodes node ≡ Some n → n.name ≡ Some old
-    → composition_of naming g declared ≡ record (composition_of naming g declared) { nodes = named_at (composition_of naming g declared).nodes node name }
-name_kept naming g declared node n name old at has =
-    let same : record (node_of naming g n) { name = first_name n.name name } ≡ node_of naming g n =
-    ap (λ (o : Option (List ℕ)). record (node_of naming g n) { name = first_name o name }) has ∙ ap (λ (o : Option (List ℕ)). record (node_of naming g n) { name = o }) (sym has) in
-    ap (λ (ns : List Node). record (composition_of naming g declared) { nodes = ns })
-    (sym (named_in naming g node n name at
-    ∙ ap (slice_set (map (node_of naming g) g.nodes) node) same
-    ∙ set_same (map (node_of naming g) g.nodes) node (node_of naming g n) (slice_get-map (node_of naming g) g.nodes node ∙ ap (option_map (node_of naming g)) at)))
+pub name_kept : (numbering : Numbering) (g : Parts) (declared : Named ℕ) (node : ℕ) (n : GraphNode) (name old : List ℕ) → slice_get g.nodes node ≡ Some n → n.name ≡ Some old
+    → composition_of numbering g declared ≡ record (composition_of numbering g declared) { nodes = named_at (composition_of numbering g declared).nodes node name }
+name_kept numbering g declared node n name old at has =
+    let same : record (node_of numbering g n) { name = first_name n.name name } ≡ node_of numbering g n =
+    ap (λ (o : Option (List ℕ)). record (node_of numbering g n) { name = first_name o name }) has ∙ ap (λ (o : Option (List ℕ)). record (node_of numbering g n) { name = o }) (sym has) in
+    ap (λ (ns : List Node). record (composition_of numbering g declared) { nodes = ns })
+    (sym (named_in numbering g node n name at
+    ∙ ap (slice_set (map (node_of numbering g) g.nodes) node) same
+    ∙ set_same (map (node_of numbering g) g.nodes) node (node_of numbering g n) (slice_get-map (node_of numbering g) g.nodes node ∙ ap (option_map (node_of numbering g)) at)))
 
 -- ---- aliases
 
@@ -189,29 +189,29 @@ same_alias ps node name (instantiation p arguments) = go (slice_get ps p)
     go (Some h) = refl
 
 -- an alias is in the composition where it is in the graph
-pub alias_there : (naming : Naming) (g : Parts) (declared : Named ℕ) (node : ℕ) (name : List ℕ) → alias_in (composition_of naming g declared) node name ≡ alias_in_nodes g.nodes node name
-alias_there naming g declared node name =
-    position_map (λ (n : Node). is_alias_of node name n.form) (node_of naming g) g.nodes
+pub alias_there : (numbering : Numbering) (g : Parts) (declared : Named ℕ) (node : ℕ) (name : List ℕ) → alias_in (composition_of numbering g declared) node name ≡ alias_in_nodes g.nodes node name
+alias_there numbering g declared node name =
+    position_map (λ (n : Node). is_alias_of node name n.form) (node_of numbering g) g.nodes
     ∙ (λ i. position (λ (n : GraphNode). same_alias g.packages node name n.form i) g.nodes)
 
-pub alias_numbered : (naming : Naming) (g : Parts) (declared : Named ℕ) (node : ℕ) (name : List ℕ) (n : ℕ) → unwrap_or (alias_in_nodes g.nodes node name) (length g.nodes) ≡ n → n ≡ alias_number (composition_of naming g declared) node name
-alias_numbered naming g declared node name n is =
-    sym is ∙ ap (λ (o : Option ℕ). unwrap_or o (length g.nodes)) (sym (alias_there naming g declared node name))
-    ∙ ap (unwrap_or (alias_in (composition_of naming g declared) node name)) (sym (next_is naming g declared))
+pub alias_numbered : (numbering : Numbering) (g : Parts) (declared : Named ℕ) (node : ℕ) (name : List ℕ) (n : ℕ) → unwrap_or (alias_in_nodes g.nodes node name) (length g.nodes) ≡ n → n ≡ alias_number (composition_of numbering g declared) node name
+alias_numbered numbering g declared node name n is =
+    sym is ∙ ap (λ (o : Option ℕ). unwrap_or o (length g.nodes)) (sym (alias_there numbering g declared node name))
+    ∙ ap (unwrap_or (alias_in (composition_of numbering g declared) node name)) (sym (next_is numbering g declared))
 
-aliased_there : (old new : Parts) (node : ℕ) (name : List ℕ) (k : ItemKind) (declared : Named ℕ) (naming : Naming) (o : Option ℕ) → alias_in_nodes old.nodes node name ≡ o → export_kind old node name ≡ Some k → aliased_by o old new node name
-    → composition_of naming new declared ≡ elim o as (λ _. Composition) [ None ↦ with_node (composition_of naming old declared) (aliased node name) (means naming old k) | Some n ↦ composition_of naming old declared ]
-aliased_there old new node name k declared naming None is exported h =
+aliased_there : (old new : Parts) (node : ℕ) (name : List ℕ) (k : ItemKind) (declared : Named ℕ) (numbering : Numbering) (o : Option ℕ) → alias_in_nodes old.nodes node name ≡ o → export_kind old node name ≡ Some k → aliased_by o old new node name
+    → composition_of numbering new declared ≡ elim o as (λ _. Composition) [ None ↦ with_node (composition_of numbering old declared) (aliased node name) (means numbering old k) | Some n ↦ composition_of numbering old declared ]
+aliased_there old new node name k declared numbering None is exported h =
     let alias_added : new ≡ alias_too old node name k = rw exported at h in
-    ap (λ (g : Parts). composition_of naming g declared) alias_added ∙ added old declared naming (plain_node (alias node name) k)
-aliased_there old new node name k declared naming (Some n) is exported h = ap (λ (g : Parts). composition_of naming g declared) h
+    ap (λ (g : Parts). composition_of numbering g declared) alias_added ∙ added old declared numbering (plain_node (alias node name) k)
+aliased_there old new node name k declared numbering (Some n) is exported h = ap (λ (g : Parts). composition_of numbering g declared) h
 
 -- the alias exists, or is the next node
 pub composition_aliases : (old new : Parts) (node : ℕ) (name : List ℕ) (k : ItemKind) → export_kind old node name ≡ Some k → IsAliased old new node name
-    → (naming : Naming) (declared : Named ℕ) → composition_of naming new declared ≡ with_alias (composition_of naming old declared) node name (means naming old k)
-composition_aliases old new node name k exported h naming declared =
-    aliased_there old new node name k declared naming (alias_in_nodes old.nodes node name) refl exported h
-    ∙ ap (λ (o : Option ℕ). elim o as (λ _. Composition) [ None ↦ with_node (composition_of naming old declared) (aliased node name) (means naming old k) | Some n ↦ composition_of naming old declared ]) (sym (alias_there naming old declared node name))
+    → (numbering : Numbering) (declared : Named ℕ) → composition_of numbering new declared ≡ with_alias (composition_of numbering old declared) node name (means numbering old k)
+composition_aliases old new node name k exported h numbering declared =
+    aliased_there old new node name k declared numbering (alias_in_nodes old.nodes node name) refl exported h
+    ∙ ap (λ (o : Option ℕ). elim o as (λ _. Composition) [ None ↦ with_node (composition_of numbering old declared) (aliased node name) (means numbering old k) | Some n ↦ composition_of numbering old declared ]) (sym (alias_there numbering old declared node name))
 
 -- ---- a graph with more nodes
 
@@ -268,11 +268,11 @@ still_there old new n g h = go (slice_get new.nodes n) refl (g.kinds n _ (ap (op
 pub named_where_none : (old new : Parts) (node : ℕ) (name : List ℕ) (n : GraphNode) → slice_get old.nodes node ≡ Some n → n.name ≡ None → new ≡ with_name old node name → NodesStand new → IsNamed old new node name
 named_where_none old new node name n at unnamed is h = record {
   grows = grows_named old new node name is h;
-  is = λ naming declared. ap (λ (g : Parts). composition_of naming g declared) is ∙ node_named naming old declared node n name at unnamed;
+  is = λ numbering declared. ap (λ (g : Parts). composition_of numbering g declared) is ∙ node_named numbering old declared node n name at unnamed;
 }
 
 pub named_already : (g : Parts) (node : ℕ) (name old : List ℕ) (n : GraphNode) → slice_get g.nodes node ≡ Some n → n.name ≡ Some old → NodesStand g → IsNamed g g node name
-named_already g node name old n at has h = record { grows = grows_none g h; is = λ naming declared. name_kept naming g declared node n name old at has }
+named_already g node name old n at has h = record { grows = grows_none g h; is = λ numbering declared. name_kept numbering g declared node n name old at has }
 
 length-push : {X : Type 0} (xs : List X) (x : X) → length (xs ++ x ∷ []) ≡ suc (length xs)
 length-push [] x = refl
@@ -323,9 +323,9 @@ alias_goes old new node name k n exported h number stand =
     record {
       grows = both.0;
       there = both.1;
-      is = λ naming declared.
-          ap (λ (c : Composition). at c n) (composition_aliases old new node name k exported h naming declared)
-          ∙ ap (λ (m : ℕ). at (with_alias (composition_of naming old declared) node name (means naming old k)) m) (alias_numbered naming old declared node name n number);
+      is = λ numbering declared.
+          ap (λ (c : Composition). at c n) (composition_aliases old new node name k exported h numbering declared)
+          ∙ ap (λ (m : ℕ). at (with_alias (composition_of numbering old declared) node name (means numbering old k)) m) (alias_numbered numbering old declared node name n number);
     }
 
 -- the same for an export that exists

@@ -1,5 +1,5 @@
 -- What stays as a graph gets more types and packages.
-use Rattle.wac_resolution_state.proofs.Common.{◌≡◌, ◌∙◌, ◌⊎◌, inl, inr, ◌≤◌, ◌<◌, ◌-◌, ℕ, List, [], ◌∷◌, Some, None, length, get_or, refl, sym, ap, subst, arith, slice_get, option_map, AllByRecursion, slice_get_cases, ItemKind, KeepsNames, Meaning, PackageParts, Named, Names, ItemsNamed, Parts, means, Naming, Key, HeldPackage, IsHeld, Contents, contents_in, all_implies}
+use Rattle.wac_resolution_state.proofs.Common.{◌≡◌, ◌∙◌, ◌⊎◌, inl, inr, ◌≤◌, ◌<◌, ◌-◌, ℕ, List, [], ◌∷◌, Some, None, length, get_or, refl, sym, ap, subst, arith, slice_get, option_map, AllByRecursion, slice_get_cases, ItemKind, KeepsNames, Meaning, PackageParts, Named, Names, ItemsNamed, Parts, means, Numbering, Key, HeldPackage, IsHeld, Contents, contents_in, all_implies}
 use Rattle.wac_resolution_state.specs.Named.{scope_of}
 use Rattle.wac_graph_types.specs.declared.kind.ItemKind.TheVariants as kinds
 use Rattle.wac_graph_types.specs.declared.kind.«Type».TheVariants as types
@@ -11,14 +11,14 @@ use Rattle.wac_resolution_state.specs.Growth.{Grows}
 use Rattle.wac_resolution_state.specs.Expands.{Expands, IsSuppliedAs, AllSupplied}
 
 pub expands_self : (g : Parts) → Expands g g
-expands_self g = record { same = refl; held = λ i p h. h; named = λ k h. h; kinds = λ naming k h. refl }
+expands_self g = record { same = refl; held = λ i p h. h; named = λ k h. h; kinds = λ numbering k h. refl }
 
 pub expands_on : (a b c : Parts) → Expands a b → Expands b c → Expands a c
 expands_on a b c p q = record {
   same = q.same ∙ ap (λ (g : Parts). record g { types = c.types; packages = c.packages }) p.same;
   held = λ i h is. q.held i h (p.held i h is);
   named = λ k h. q.named k (p.named k h);
-  kinds = λ naming k h. q.kinds naming k (p.named k h) ∙ p.kinds naming k h;
+  kinds = λ numbering k h. q.kinds numbering k (p.named k h) ∙ p.kinds numbering k h;
 }
 
 pub grows_packages : (old new : Parts) → Grows old new → new.packages ≡ old.packages
@@ -39,11 +39,11 @@ items_expanded old new [] e h = tt
 items_expanded old new (k ∷ ks) e h = (e.named k.1 h.0, items_expanded old new ks e h.1)
 
 -- named kinds still mean the same
-pub scope_expanded : (old new : Parts) (ks : Named ItemKind) (naming : Naming) → Expands old new → ItemsNamed old.types ks → scope_of naming new ks ≡ scope_of naming old ks
-scope_expanded old new [] naming e h = refl
-scope_expanded old new (k ∷ ks) naming e h =
-    let one : means naming new k.1 ≡ means naming old k.1 = e.kinds naming k.1 h.0 in
-    let rest : scope_of naming new ks ≡ scope_of naming old ks = scope_expanded old new ks naming e h.1 in
+pub scope_expanded : (old new : Parts) (ks : Named ItemKind) (numbering : Numbering) → Expands old new → ItemsNamed old.types ks → scope_of numbering new ks ≡ scope_of numbering old ks
+scope_expanded old new [] numbering e h = refl
+scope_expanded old new (k ∷ ks) numbering e h =
+    let one : means numbering new k.1 ≡ means numbering old k.1 = e.kinds numbering k.1 h.0 in
+    let rest : scope_of numbering new ks ≡ scope_of numbering old ks = scope_expanded old new ks numbering e h.1 in
     cc
 
 -- ---- the length of the table
@@ -91,11 +91,11 @@ contents a b w i d =
     ∙ ap (λ (l : Named Meaning). record { world = b.world; instance = b.instance; definitions = l }) d
 
 -- a package still has the same contents
-pub contents_expanded : (old new : Parts) (p : HeldPackage) (naming : Naming) → Expands old new → IsHeld old.types p → contents_in naming new p ≡ contents_in naming old p
-contents_expanded old new p naming e h = contents _ _
-    (e.kinds naming (kinds.Component p.world) h.of_world)
-    (e.kinds naming (kinds.Instance p.instance) h.of_instance)
-    (scope_expanded old new p.definitions naming e h.of_definitions)
+pub contents_expanded : (old new : Parts) (p : HeldPackage) (numbering : Numbering) → Expands old new → IsHeld old.types p → contents_in numbering new p ≡ contents_in numbering old p
+contents_expanded old new p numbering e h = contents _ _
+    (e.kinds numbering (kinds.Component p.world) h.of_world)
+    (e.kinds numbering (kinds.Instance p.instance) h.of_instance)
+    (scope_expanded old new p.definitions numbering e h.of_definitions)
 
 pub held_expanded : (old new : Parts) (p : HeldPackage) → Expands old new → IsHeld old.types p → IsHeld new.types p
 held_expanded old new p e h = record {
@@ -105,16 +105,16 @@ held_expanded old new p e h = record {
   of_definitions = items_expanded old new p.definitions e h.of_definitions;
 }
 
-pub handed_expanded : (packages : List (Key × PackageParts)) (old new : Parts) → Expands old new → (p : HeldPackage) → IsSuppliedAs packages old p → IsSuppliedAs packages new p
-handed_expanded packages old new e p h = record {
+pub supplied_expanded : (packages : List (Key × PackageParts)) (old new : Parts) → Expands old new → (p : HeldPackage) → IsSuppliedAs packages old p → IsSuppliedAs packages new p
+supplied_expanded packages old new e p h = record {
   there = held_expanded old new p e h.there;
-  contents = λ naming. h.contents naming ∙ ap Some (sym (contents_expanded old new p naming e h.there));
+  contents = λ numbering. h.contents numbering ∙ ap Some (sym (contents_expanded old new p numbering e h.there));
 }
 
 -- where no package is added, each that is held is still held as it was supplied
-pub handed_kept : (packages : List (Key × PackageParts)) (old new : Parts) → Expands old new → new.packages ≡ old.packages → AllSupplied packages old → AllSupplied packages new
-handed_kept packages old new e same h =
-    subst (AllByRecursion (IsSuppliedAs packages new)) (sym same) (all_implies (IsSuppliedAs packages old) (IsSuppliedAs packages new) (handed_expanded packages old new e) old.packages h)
+pub supplied_kept : (packages : List (Key × PackageParts)) (old new : Parts) → Expands old new → new.packages ≡ old.packages → AllSupplied packages old → AllSupplied packages new
+supplied_kept packages old new e same h =
+    subst (AllByRecursion (IsSuppliedAs packages new)) (sym same) (all_implies (IsSuppliedAs packages old) (IsSuppliedAs packages new) (supplied_expanded packages old new e) old.packages h)
 
-pub handed_grown : (packages : List (Key × PackageParts)) (old new : Parts) → Grows old new → AllSupplied packages old → AllSupplied packages new
-handed_grown packages old new g h = handed_kept packages old new (grows_expands old new g) (grows_packages old new g) h
+pub supplied_grown : (packages : List (Key × PackageParts)) (old new : Parts) → Grows old new → AllSupplied packages old → AllSupplied packages new
+supplied_grown packages old new g h = supplied_kept packages old new (grows_expands old new g) (grows_packages old new g) h

@@ -1,5 +1,5 @@
 -- Nodes that are instances, and accesses to their exports.
-use Rattle.wac_resolution_state.proofs.Common.{◌≡◌, ◌∙◌, ◌+◌, ◌<◌, ℕ, List, [], ◌∷◌, ◌++◌, Option, Some, None, refl, sym, ap, subst, map, take, length, get_or, slice_get, option_map, option_and_then, IfSome, IsSome, take_more, length-map, get_or-map, Span, PostfixExpr, ItemKind, InterfaceId, Meaning, of_kind, instance_exports, interface_exports, Named, look_up, IsFresh, described, exports_of, items_mean, Names, items_found, word_is, postfix_expr_of, Parts, export_kind, means, entry_means, origin_at, EntriesMean, Naming, Error, Operation, not_an_instance, missing_instance_export, kind_at, at, accessed, alias_at, Accesses, instance_of}
+use Rattle.wac_resolution_state.proofs.Common.{◌≡◌, ◌∙◌, ◌+◌, ◌<◌, ℕ, List, [], ◌∷◌, ◌++◌, Option, Some, None, refl, sym, ap, subst, map, take, length, get_or, slice_get, option_map, option_and_then, IfSome, IsSome, take_more, length-map, get_or-map, Span, PostfixExpr, ItemKind, InterfaceId, Meaning, of_kind, instance_exports, interface_exports, Named, look_up, IsFresh, described, exports_of, items_mean, Names, items_found, word_is, postfix_expr_of, Parts, export_kind, means, entry_means, origin_at, EntriesMean, Numbering, Error, Operation, not_an_instance, missing_instance_export, kind_at, at, accessed, alias_at, Accesses, instance_of}
 use Rattle.std.specs.Prelude.{◌⊎◌}
 use Rattle.wac_ast_grammar.specs.Grammar.{postfix_span, last_span}
 use Rattle.wac_graph_types.specs.declared.kind.ItemKind.TheVariants as kinds
@@ -21,8 +21,8 @@ pub is_instance : (g : Parts) (node : ℕ) (i : InterfaceId) → kind_in g.nodes
 is_instance g node i kind named law = record {
   kind = kind;
   named = named;
-  is = λ naming declared. ap instance_of (kind_means naming g node (kinds.Instance i) kind);
-  exports = λ naming. interface_exports_mean (λ n. naming (origin_at g n)) g.types (entry_means naming g) (law naming) i.0 named.1;
+  is = λ numbering declared. ap instance_of (kind_means numbering g node (kinds.Instance i) kind);
+  exports = λ numbering. interface_exports_mean (λ n. numbering (origin_at g n)) g.types (entry_means numbering g) (law numbering) i.0 named.1;
 }
 
 pub no_instance : (f : ℕ → Meaning) (k : ItemKind) → ((i : InterfaceId) → k ≡ kinds.Instance i → ⊥) → instance_of (of_kind f k) ≡ None
@@ -42,10 +42,10 @@ no_instance f (kinds.Module id) h = refl
 no_instance f (kinds.Value v) h = refl
 
 pub not_instance : (g : Parts) (node : ℕ) (k : ItemKind) (word : List ℕ) (operation : Operation) (span : Span) → kind_in g.nodes node ≡ Some k → ((i : InterfaceId) → k ≡ kinds.Instance i → ⊥) → word ≡ words.described k
-    → (naming : Naming) (declared : Named ℕ) → IsNotInstance (composition_of naming g declared) node operation span (not_an_instance word operation span)
-not_instance g node k word operation span kind none is naming declared =
-    let meant : kind_at (composition_of naming g declared).nodes node ≡ means naming g k = kind_means naming g node k kind in
-    (ap instance_of meant ∙ no_instance (entry_means naming g) k none, ap (λ (w : List ℕ). not_an_instance w operation span) (is ∙ sym (word_is (entry_means naming g) k) ∙ sym (ap described meant)))
+    → (numbering : Numbering) (declared : Named ℕ) → IsNotInstance (composition_of numbering g declared) node operation span (not_an_instance word operation span)
+not_instance g node k word operation span kind none is numbering declared =
+    let meant : kind_at (composition_of numbering g declared).nodes node ≡ means numbering g k = kind_means numbering g node k kind in
+    (ap instance_of meant ∙ no_instance (entry_means numbering g) k none, ap (λ (w : List ℕ). not_an_instance w operation span) (is ∙ sym (word_is (entry_means numbering g) k) ∙ sym (ap described meant)))
 
 -- ---- exports of an instance
 
@@ -57,24 +57,24 @@ export_is g node i name h = go (slice_get g.nodes node) h.kind
     go (Some n) is = (let same : n.kind ≡ kinds.Instance i = cc in ap (λ (k : ItemKind). look_up name (instance_exports g.types k)) same)
 
 -- what an instance exports under a name, as it is meant
-pub export_meant : (g : Parts) (node : ℕ) (i : InterfaceId) (name : List ℕ) → IsInstance g node i → (naming : Naming) → look_up name (exports_of (entry_means naming g i.0)) ≡ option_map (means naming g) (export_kind g node name)
-export_meant g node i name h naming =
-    ap (look_up name) (h.exports naming) ∙ items_found (entry_means naming g) (interface_exports g.types i.0) name ∙ ap (option_map (means naming g)) (sym (export_is g node i name h))
+pub export_meant : (g : Parts) (node : ℕ) (i : InterfaceId) (name : List ℕ) → IsInstance g node i → (numbering : Numbering) → look_up name (exports_of (entry_means numbering g i.0)) ≡ option_map (means numbering g) (export_kind g node name)
+export_meant g node i name h numbering =
+    ap (look_up name) (h.exports numbering) ∙ items_found (entry_means numbering g) (interface_exports g.types i.0) name ∙ ap (option_map (means numbering g)) (sym (export_is g node i name h))
 
 -- the name that an access means there
 abbrev pub Means : Parts → InterfaceId → PostfixExpr → List ℕ → Type 0
 Means g i p name = (f : ℕ → Meaning) → name ≡ accessed p (items_mean f (interface_exports g.types i.0))
 
-name_meant : (g : Parts) (node : ℕ) (i : InterfaceId) (p : PostfixExpr) (name : List ℕ) → IsInstance g node i → Means g i p name → (naming : Naming) → name ≡ accessed p (exports_of (entry_means naming g i.0))
-name_meant g node i p name h is naming = is (entry_means naming g) ∙ ap (accessed p) (sym (h.exports naming))
+name_meant : (g : Parts) (node : ℕ) (i : InterfaceId) (p : PostfixExpr) (name : List ℕ) → IsInstance g node i → Means g i p name → (numbering : Numbering) → name ≡ accessed p (exports_of (entry_means numbering g i.0))
+name_meant g node i p name h is numbering = is (entry_means numbering g) ∙ ap (accessed p) (sym (h.exports numbering))
 
 pub not_exported : (g : Parts) (node : ℕ) (i : InterfaceId) (p : PostfixExpr) (name : List ℕ) → IsInstance g node i → Means g i p name → export_kind g node name ≡ None
-    → (naming : Naming) (declared : Named ℕ) → IsNotExported (at (composition_of naming g declared) node) p (missing_instance_export name (postfix_span p))
-not_exported g node i p name h is none naming declared =
-    let same : name ≡ accessed p (exports_of (entry_means naming g i.0)) = name_meant g node i p name h is naming in record {
-      instance = entry_means naming g i.0;
-      there = h.is naming declared;
-      fresh = subst (λ (l : List ℕ). IsFresh l (exports_of (entry_means naming g i.0))) same (export_meant g node i name h naming ∙ ap (option_map (means naming g)) none);
+    → (numbering : Numbering) (declared : Named ℕ) → IsNotExported (at (composition_of numbering g declared) node) p (missing_instance_export name (postfix_span p))
+not_exported g node i p name h is none numbering declared =
+    let same : name ≡ accessed p (exports_of (entry_means numbering g i.0)) = name_meant g node i p name h is numbering in record {
+      instance = entry_means numbering g i.0;
+      there = h.is numbering declared;
+      fresh = subst (λ (l : List ℕ). IsFresh l (exports_of (entry_means numbering g i.0))) same (export_meant g node i name h numbering ∙ ap (option_map (means numbering g)) none);
       error = ap (λ (l : List ℕ). missing_instance_export l (postfix_span p)) same;
     }
 
@@ -87,13 +87,13 @@ access_goes old new node i p name n h is there goes = go (export_kind old node n
     go (Some k) exported there a = record {
       grows = a.grows;
       there = a.there;
-      goes = λ naming declared.
-          let same : name ≡ accessed p (exports_of (entry_means naming old i.0)) = name_meant old node i p name h is naming in (
-            entry_means naming old i.0,
-            means naming old k,
-            h.is naming declared,
-            subst (λ (l : List ℕ). look_up l (exports_of (entry_means naming old i.0)) ≡ Some (means naming old k)) same (export_meant old node i name h naming ∙ ap (option_map (means naming old)) exported),
-            a.is naming declared ∙ ap (λ (l : List ℕ). alias_at (at (composition_of naming old declared) node) l (means naming old k)) same,
+      goes = λ numbering declared.
+          let same : name ≡ accessed p (exports_of (entry_means numbering old i.0)) = name_meant old node i p name h is numbering in (
+            entry_means numbering old i.0,
+            means numbering old k,
+            h.is numbering declared,
+            subst (λ (l : List ℕ). look_up l (exports_of (entry_means numbering old i.0)) ≡ Some (means numbering old k)) same (export_meant old node i name h numbering ∙ ap (option_map (means numbering old)) exported),
+            a.is numbering declared ∙ ap (λ (l : List ℕ). alias_at (at (composition_of numbering old declared) node) l (means numbering old k)) same,
           );
     }
 
@@ -103,7 +103,7 @@ abbrev pub SoFar : Parts → Parts → ℕ → Span → List PostfixExpr → ℕ
 SoFar old new node span ps n last = AccessSteps old new node ps n × (last ≡ last_span span ps)
 
 pub no_access : (g : Parts) (node : ℕ) (span : Span) → NodesStand g → node < length g.nodes → SoFar g g node span [] node span
-no_access g node span h there = (record { grows = grows_none g h; there = there; go = λ naming declared. refl }, refl)
+no_access g node span h there = (record { grows = grows_none g h; there = there; go = λ numbering declared. refl }, refl)
 
 last_of_more : (span : Span) (ps : List PostfixExpr) (p : PostfixExpr) → last_span span (ps ++ p ∷ []) ≡ postfix_span p
 last_of_more span [] p = refl
@@ -115,9 +115,9 @@ access_next old mid new node m n span before last ys i y within is p q at_last =
   record {
     grows = grows_on old mid new p.0.grows q.grows;
     there = q.there;
-    go = λ naming declared.
-        steps_on_map Accesses postfix_expr_of (at (composition_of naming old declared) node) ys i y (at (composition_of naming mid declared) m) (at (composition_of naming new declared) n) within (p.0.go naming declared)
-        (subst (λ (z : CodePostfixExpr). Accesses (at (composition_of naming mid declared) m) (postfix_expr_of z) (at (composition_of naming new declared) n)) is (q.goes naming declared));
+    go = λ numbering declared.
+        steps_on_map Accesses postfix_expr_of (at (composition_of numbering old declared) node) ys i y (at (composition_of numbering mid declared) m) (at (composition_of numbering new declared) n) within (p.0.go numbering declared)
+        (subst (λ (z : CodePostfixExpr). Accesses (at (composition_of numbering mid declared) m) (postfix_expr_of z) (at (composition_of numbering new declared) n)) is (q.goes numbering declared));
   },
   at_last ∙ ap (λ (z : CodePostfixExpr). postfix_span (postfix_expr_of z)) is ∙ sym (ended),
 )
@@ -129,10 +129,10 @@ access_next old mid new node m n span before last ys i y within is p q at_last =
     ended = ap (last_span span) (take_more (map postfix_expr_of ys) i (postfix_expr_of y) inside) ∙ last_of_more span (take i (map postfix_expr_of ys)) (get_or (map postfix_expr_of ys) i (postfix_expr_of y)) ∙ ap postfix_span (get_or-map postfix_expr_of ys i y (postfix_expr_of y) within)
 
 pub access_breaks : (old mid : Parts) (node m : ℕ) (span before : Span) (e : Error) (ys : List CodePostfixExpr) (i : ℕ) (y : CodePostfixExpr) → i < length ys → y ≡ get_or ys i y → SoFar old mid node span (take i (map postfix_expr_of ys)) m before
-    → ((naming : Naming) (declared : Named ℕ) → IsNotInstance (composition_of naming mid declared) m Operation.access before e ⊎ IsNotExported (at (composition_of naming mid declared) m) (postfix_expr_of y) e)
-    → (naming : Naming) (declared : Named ℕ) → Fails Accesses (AccessBroken span e) (at (composition_of naming old declared) node) (map postfix_expr_of ys)
-access_breaks old mid node m span before e ys i y within is p breaks naming declared =
+    → ((numbering : Numbering) (declared : Named ℕ) → IsNotInstance (composition_of numbering mid declared) m Operation.access before e ⊎ IsNotExported (at (composition_of numbering mid declared) m) (postfix_expr_of y) e)
+    → (numbering : Numbering) (declared : Named ℕ) → Fails Accesses (AccessBroken span e) (at (composition_of numbering old declared) node) (map postfix_expr_of ys)
+access_breaks old mid node m span before e ys i y within is p breaks numbering declared =
     let first : List PostfixExpr = take i (map postfix_expr_of ys) in
-    fails_at_map Accesses (AccessBroken span e) postfix_expr_of (at (composition_of naming old declared) node) ys i y (at (composition_of naming mid declared) m) within (p.0.go naming declared)
-    (subst (λ (z : CodePostfixExpr). AccessBroken span e (at (composition_of naming mid declared) m) first (postfix_expr_of z)) is
-    (subst (λ (s : Span). IsNotInstance (composition_of naming mid declared) m Operation.access s e ⊎ IsNotExported (at (composition_of naming mid declared) m) (postfix_expr_of y) e) p.1 (breaks naming declared)))
+    fails_at_map Accesses (AccessBroken span e) postfix_expr_of (at (composition_of numbering old declared) node) ys i y (at (composition_of numbering mid declared) m) within (p.0.go numbering declared)
+    (subst (λ (z : CodePostfixExpr). AccessBroken span e (at (composition_of numbering mid declared) m) first (postfix_expr_of z)) is
+    (subst (λ (s : Span). IsNotInstance (composition_of numbering mid declared) m Operation.access s e ⊎ IsNotExported (at (composition_of numbering mid declared) m) (postfix_expr_of y) e) p.1 (breaks numbering declared)))

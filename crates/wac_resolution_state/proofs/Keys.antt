@@ -1,5 +1,5 @@
 -- Keys, and what is found under them.
-use Rattle.wac_resolution_state.proofs.Common.{◌≡◌, ◌∙◌, List, [], ◌∷◌, Option, Some, None, Bool, true, false, cond, ◌&&◌, refl, sym, ap, map, string_bytes, String, option_map, Global, lookup, bytes_eq, PackageParts, Naming, Key, key_of, same_key, same_version, contents_of, handed, package_of, keys_same}
+use Rattle.wac_resolution_state.proofs.Common.{◌≡◌, ◌∙◌, List, [], ◌∷◌, Option, Some, None, Bool, true, false, cond, ◌&&◌, refl, sym, ap, map, string_bytes, String, option_map, Global, lookup, bytes_eq, PackageParts, Numbering, Key, key_of, same_key, same_version, contents_of, supplied_packages, package_of, keys_same}
 use Rattle.std.specs.Option.{option_eq}
 use Rattle.std.specs.String.{string_eq}
 use Rattle.wac_graph.specs.declared.package_key.PackageKey.{PackageKey}
@@ -20,25 +20,25 @@ keyed_found key [] = refl
 keyed_found {X} key (e ∷ es) = (λ i. cond (key_eq key e.0 i) (Some e.1) (keyed_found key es i))
 
 -- the contents of the package that was supplied under a key
-pub contents_found : (naming : Naming) (key : Key) (packages : List (Key × PackageParts)) (p : PackageParts) → lookup (λ k. same_key key k) packages ≡ Some p → package_of key (handed naming packages) ≡ Some (contents_of naming key p)
-contents_found naming key [] p h = absurd (cc)
-contents_found naming key (e ∷ es) p h = go (same_key key e.0) refl h (contents_found naming key es p)
+pub contents_found : (numbering : Numbering) (key : Key) (packages : List (Key × PackageParts)) (p : PackageParts) → lookup (λ k. same_key key k) packages ≡ Some p → package_of key (supplied_packages numbering packages) ≡ Some (contents_of numbering key p)
+contents_found numbering key [] p h = absurd (cc)
+contents_found numbering key (e ∷ es) p h = go (same_key key e.0) refl h (contents_found numbering key es p)
   where
     go : (b : Bool) → same_key key e.0 ≡ b → cond b (Some e.1) (lookup (λ k. same_key key k) es) ≡ Some p
-        → (lookup (λ k. same_key key k) es ≡ Some p → package_of key (handed naming es) ≡ Some (contents_of naming key p))
-        → cond b (Some (contents_of naming e.0 e.1)) (package_of key (handed naming es)) ≡ Some (contents_of naming key p)
+        → (lookup (λ k. same_key key k) es ≡ Some p → package_of key (supplied_packages numbering es) ≡ Some (contents_of numbering key p))
+        → cond b (Some (contents_of numbering e.0 e.1)) (package_of key (supplied_packages numbering es)) ≡ Some (contents_of numbering key p)
     go true same h later =
         let keys : key ≡ e.0 = keys_same key e.0 same in
         let parts : e.1 ≡ p = cc in
-        ap (λ (k : Key). Some (contents_of naming k e.1)) (sym keys) ∙ ap (λ (q : PackageParts). Some (contents_of naming key q)) parts
+        ap (λ (k : Key). Some (contents_of numbering k e.1)) (sym keys) ∙ ap (λ (q : PackageParts). Some (contents_of numbering key q)) parts
     go false same h later = later h
 
 -- nothing was supplied under it
-pub none_found : (naming : Naming) (key : Key) (packages : List (Key × PackageParts)) → lookup (λ k. same_key key k) packages ≡ None → package_of key (handed naming packages) ≡ None
-none_found naming key [] h = refl
-none_found naming key (e ∷ es) h = go (same_key key e.0) h (none_found naming key es)
+pub none_found : (numbering : Numbering) (key : Key) (packages : List (Key × PackageParts)) → lookup (λ k. same_key key k) packages ≡ None → package_of key (supplied_packages numbering packages) ≡ None
+none_found numbering key [] h = refl
+none_found numbering key (e ∷ es) h = go (same_key key e.0) h (none_found numbering key es)
   where
-    go : (b : Bool) → cond b (Some e.1) (lookup (λ k. same_key key k) es) ≡ None → (lookup (λ k. same_key key k) es ≡ None → package_of key (handed naming es) ≡ None)
-        → cond b (Some (contents_of naming e.0 e.1)) (package_of key (handed naming es)) ≡ None
+    go : (b : Bool) → cond b (Some e.1) (lookup (λ k. same_key key k) es) ≡ None → (lookup (λ k. same_key key k) es ≡ None → package_of key (supplied_packages numbering es) ≡ None)
+        → cond b (Some (contents_of numbering e.0 e.1)) (package_of key (supplied_packages numbering es)) ≡ None
     go true h later = absurd (cc)
     go false h later = later h

@@ -1,5 +1,5 @@
 -- What segments resolve to, and where they break.
-use Rattle.wac_resolution_state.proofs.Common.{◌≡◌, ◌∙◌, inl, inr, ◌<◌, ℕ, suc, List, [], ◌∷◌, Some, None, take, length, get_or, refl, sym, ap, subst, arith, slice_get, string_bytes, String, Result, IfOk, Global, join_with_byte, slice_split, length-map, length-take, get_or-map, slice_get_within, get_or_from_slice_get, Span, ItemKind, Meaning, Named, Scope, look_up, described, behind, located, segment_spans, PackagePath, Parts, means, Naming, Error, package_missing_export, package_path_missing_export, last_of, StandsAt, IsNoExport, IsNoPackageExport, OwnPathBroken, ForeignPathBroken, IsUndefined, segments_of, IsMember, LeadsFrom, fails_at}
+use Rattle.wac_resolution_state.proofs.Common.{◌≡◌, ◌∙◌, inl, inr, ◌<◌, ℕ, suc, List, [], ◌∷◌, Some, None, take, length, get_or, refl, sym, ap, subst, arith, slice_get, string_bytes, String, Result, IfOk, Global, join_with_byte, slice_split, length-map, length-take, get_or-map, slice_get_within, get_or_from_slice_get, Span, ItemKind, Meaning, Named, Scope, look_up, described, after, located, segment_spans, PackagePath, Parts, means, Numbering, Error, package_missing_export, package_path_missing_export, last_of, StandsAt, IsNoExport, IsNoPackageExport, OwnPathBroken, ForeignPathBroken, IsUndefined, segments_of, IsMember, LeadsFrom, fails_at}
 use Rattle.wac_resolution_state.specs.Named.{scope_of, KindIs}
 use Rattle.wac_resolution_state.proofs.Scopes.{kind_fresh}
 use Rattle.wac_graph_types.specs.Steps.{Fails}
@@ -9,10 +9,10 @@ use Rattle.wac_resolution_state.specs.Segments.{Spans, texts, SegmentsLead, Memb
 
 texts_located : (offset : ℕ) (parts : List (List ℕ)) → texts (located offset parts) ≡ parts
 texts_located offset [] = refl
-texts_located offset (part ∷ others) = ap (λ (l : List (List ℕ)). part ∷ l) (texts_located (behind (behind offset (length part)) 1) others)
+texts_located offset (part ∷ others) = ap (λ (l : List (List ℕ)). part ∷ l) (texts_located (after (after offset (length part)) 1) others)
 
 pub texts_of : (p : PackagePath) → texts (segment_spans p) ≡ segments_of p
-texts_of p = texts_located (behind (behind p.span.offset (length p.name)) 1) (slice_split is_slash p.segments)
+texts_of p = texts_located (after (after p.span.offset (length p.name)) 1) (slice_split is_slash p.segments)
 
 module _ (p : PackagePath) (first : List ℕ) (at : Span) (rest : Spans) (split : segment_spans p ≡ (first, at) ∷ rest) where
   pub segments_split : segments_of p ≡ first ∷ texts rest
@@ -29,8 +29,8 @@ module _ (p : PackagePath) (first : List ℕ) (at : Span) (rest : Spans) (split 
   pub segments_lead : (g : Parts) (ks : Named ItemKind) (k to : ItemKind) → KindIs ks (record { string = first; span = at }) k → MembersLead g k (texts rest) to → SegmentsLead g ks p to
   segments_lead g ks k to found lead = record {
     named = lead.named;
-    is = λ naming. subst (λ (l : List (List ℕ)). LeadsFrom (scope_of naming g ks) l (means naming g to)) (sym segments_split)
-        (means naming g k, found.is naming g, lead.go naming);
+    is = λ numbering. subst (λ (l : List (List ℕ)). LeadsFrom (scope_of numbering g ks) l (means numbering g to)) (sym segments_split)
+        (means numbering g k, found.is numbering g, lead.go numbering);
   }
 
   -- ---- their texts
@@ -55,40 +55,40 @@ module _ (p : PackagePath) (first : List ℕ) (at : Span) (rest : Spans) (split 
     pub missing_stands : StandsAt p (suc (length (take m.before (texts rest)))) m.segment.now m.span
     missing_stands = later_stands m.before (take m.before (texts rest)) (m.segment.now, m.span) taken h.stands
 
-    misses_fail : (broken : Meaning → List (List ℕ) → List ℕ → Type 0) (naming : Naming) → broken (means naming g m.kind) (take m.before (texts rest)) m.segment.now → Fails IsMember broken (means naming g from) (texts rest)
-    misses_fail broken naming b =
-        fails_at IsMember broken (means naming g from) (texts rest) m.before m.segment.now (means naming g m.kind) within (h.leads.go naming)
-        (subst (λ (s : List ℕ). broken (means naming g m.kind) (take m.before (texts rest)) s) (sym text) b)
+    misses_fail : (broken : Meaning → List (List ℕ) → List ℕ → Type 0) (numbering : Numbering) → broken (means numbering g m.kind) (take m.before (texts rest)) m.segment.now → Fails IsMember broken (means numbering g from) (texts rest)
+    misses_fail broken numbering b =
+        fails_at IsMember broken (means numbering g from) (texts rest) m.before m.segment.now (means numbering g m.kind) within (h.leads.go numbering)
+        (subst (λ (s : List ℕ). broken (means numbering g m.kind) (take m.before (texts rest)) s) (sym text) b)
 
-    pub own_misses : (ks : Named ItemKind) (e : Error) → KindIs ks (record { string = first; span = at }) from → ((naming : Naming) (g : Parts) → e ≡ package_path_missing_export m.last.now (described (means naming g m.kind)) m.segment.now m.span)
-        → (naming : Naming) → OwnPathBroken (scope_of naming g ks) p (segments_of p) e
-    own_misses ks e found is naming =
-        let told : e ≡ package_path_missing_export (last_of first (take m.before (texts rest))) (described (means naming g m.kind)) m.segment.now m.span
-        = is naming g ∙ ap (λ (l : List ℕ). package_path_missing_export l (described (means naming g m.kind)) m.segment.now m.span) h.last in
-        subst (λ (l : List (List ℕ)). OwnPathBroken (scope_of naming g ks) p l e) (sym segments_split)
+    pub own_misses : (ks : Named ItemKind) (e : Error) → KindIs ks (record { string = first; span = at }) from → ((numbering : Numbering) (g : Parts) → e ≡ package_path_missing_export m.last.now (described (means numbering g m.kind)) m.segment.now m.span)
+        → (numbering : Numbering) → OwnPathBroken (scope_of numbering g ks) p (segments_of p) e
+    own_misses ks e found is numbering =
+        let error_is : e ≡ package_path_missing_export (last_of first (take m.before (texts rest))) (described (means numbering g m.kind)) m.segment.now m.span
+        = is numbering g ∙ ap (λ (l : List ℕ). package_path_missing_export l (described (means numbering g m.kind)) m.segment.now m.span) h.last in
+        subst (λ (l : List (List ℕ)). OwnPathBroken (scope_of numbering g ks) p l e) (sym segments_split)
         (inr (
-          means naming g from,
-          found.is naming g,
-          misses_fail (IsNoExport p first e) naming (m.span, h.none naming, missing_stands, told),
+          means numbering g from,
+          found.is numbering g,
+          misses_fail (IsNoExport p first e) numbering (m.span, h.none numbering, missing_stands, error_is),
         ))
 
     pub foreign_misses : (ks : Named ItemKind) (e : Error) (before : List ℕ) → KindIs ks (record { string = first; span = at }) from → before ≡ join_with_byte 47 (take (suc m.before) (segments_of p))
-        → ((naming : Naming) (g : Parts) → e ≡ package_missing_export (Some (described (means naming g m.kind))) before p.name m.segment.now m.span)
-        → (naming : Naming) → ForeignPathBroken (scope_of naming g ks) p (segments_of p) e
-    foreign_misses ks e before found joined is naming =
+        → ((numbering : Numbering) (g : Parts) → e ≡ package_missing_export (Some (described (means numbering g m.kind))) before p.name m.segment.now m.span)
+        → (numbering : Numbering) → ForeignPathBroken (scope_of numbering g ks) p (segments_of p) e
+    foreign_misses ks e before found joined is numbering =
         let path : before ≡ join_with_byte 47 (first ∷ take m.before (texts rest)) = joined ∙ ap (λ (l : List (List ℕ)). join_with_byte 47 (take (suc m.before) l)) segments_split in
-        let told : e ≡ package_missing_export (Some (described (means naming g m.kind))) (join_with_byte 47 (first ∷ take m.before (texts rest))) p.name m.segment.now m.span
-        = is naming g ∙ ap (λ (l : List ℕ). package_missing_export (Some (described (means naming g m.kind))) l p.name m.segment.now m.span) path in
-        subst (λ (l : List (List ℕ)). ForeignPathBroken (scope_of naming g ks) p l e) (sym segments_split)
+        let error_is : e ≡ package_missing_export (Some (described (means numbering g m.kind))) (join_with_byte 47 (first ∷ take m.before (texts rest))) p.name m.segment.now m.span
+        = is numbering g ∙ ap (λ (l : List ℕ). package_missing_export (Some (described (means numbering g m.kind))) l p.name m.segment.now m.span) path in
+        subst (λ (l : List (List ℕ)). ForeignPathBroken (scope_of numbering g ks) p l e) (sym segments_split)
         (inr (
-          means naming g from,
-          found.is naming g,
-          misses_fail (IsNoPackageExport p first e) naming (m.span, h.none naming, missing_stands, told),
+          means numbering g from,
+          found.is numbering g,
+          misses_fail (IsNoPackageExport p first e) numbering (m.span, h.none numbering, missing_stands, error_is),
         ))
 
   pub own_undefined : (scope : Scope) (e : Error) → IsUndefined scope (record { string = first; span = at }) e → OwnPathBroken scope p (segments_of p) e
   own_undefined scope e h = subst (λ (l : List (List ℕ)). OwnPathBroken scope p l e) (sym segments_split) (inl (at, h.0, first_stands, h.1))
 
   pub foreign_undefined : (g : Parts) (ks : Named ItemKind) (e : Error) → (look_up first ks ≡ None) × (e ≡ package_missing_export None [] p.name first at)
-      → (naming : Naming) → ForeignPathBroken (scope_of naming g ks) p (segments_of p) e
-  foreign_undefined g ks e h naming = subst (λ (l : List (List ℕ)). ForeignPathBroken (scope_of naming g ks) p l e) (sym segments_split) (inl (at, kind_fresh naming g ks first h.0, first_stands, h.1))
+      → (numbering : Numbering) → ForeignPathBroken (scope_of numbering g ks) p (segments_of p) e
+  foreign_undefined g ks e h numbering = subst (λ (l : List (List ℕ)). ForeignPathBroken (scope_of numbering g ks) p l e) (sym segments_split) (inl (at, kind_fresh numbering g ks first h.0, first_stands, h.1))

@@ -1,9 +1,9 @@
 -- Packages that a graph gets, or has.
-use Rattle.wac_resolution_state.proofs.Common.{◌≡◌, ◌∙◌, ◌<◌, ℕ, List, [], ◌∷◌, ◌++◌, Some, None, zero, suc, length, refl, sym, ap, subst, slice_get, option_map, AllByRecursion, lookup, slice_get-get_or, slice_get_within, KeepsNames, PackageParts, Parts, KeepsKinds, Naming, Key, HeldPackage, IsHeld, same_key, package_keyed, moved_package, handed, package_of, contents_in, keys_same, get_kept, get_last, all_more, all_implies}
+use Rattle.wac_resolution_state.proofs.Common.{◌≡◌, ◌∙◌, ◌<◌, ℕ, List, [], ◌∷◌, ◌++◌, Some, None, zero, suc, length, refl, sym, ap, subst, slice_get, option_map, AllByRecursion, lookup, slice_get-get_or, slice_get_within, KeepsNames, PackageParts, Parts, KeepsKinds, Numbering, Key, HeldPackage, IsHeld, same_key, package_keyed, moved_package, supplied_packages, package_of, contents_in, keys_same, get_kept, get_last, all_more, all_implies}
 use Rattle.std.proofs.lemmas.List.Quantifiers.{position-Some}
 use Rattle.wac_graph.specs.Adds.{AddsPackage}
 use Rattle.wac_resolution_state.specs.Expands.{Expands, IsSuppliedAs, AllSupplied, Loads, IsNotSupplied}
-use Rattle.wac_resolution_state.proofs.Expanding.{expands_self, handed_expanded}
+use Rattle.wac_resolution_state.proofs.Expanding.{expands_self, supplied_expanded}
 use Rattle.wac_resolution_state.proofs.Keys.{contents_found, none_found}
 
 keyed_at : (key : Key) (ps : List HeldPackage) (i : ℕ) → package_keyed key ps ≡ Some i → option_map (λ p. p.key) (slice_get ps i) ≡ Some key
@@ -34,7 +34,7 @@ module _ (packages : List (Key × PackageParts)) (old new : Parts) (key : Key) (
     same = adds.is ∙ ap (λ (ps : List HeldPackage). record old { types = new.types; packages = ps }) (sym appended);
     held = λ i h is. subst (λ (ps : List HeldPackage). slice_get ps i ≡ Some h) (sym appended) (get_kept old.packages (moved_package (length old.types) key p ∷ []) i h is);
     named = names;
-    kinds = λ naming k h. kinds naming k h.0;
+    kinds = λ numbering k h. kinds numbering k h.0;
   }
 
   -- a supplied package was added
@@ -44,9 +44,9 @@ module _ (packages : List (Key × PackageParts)) (old new : Parts) (key : Key) (
       let same : held ≡ moved_package (length old.types) key p = cc in
       let one : IsSuppliedAs packages new (moved_package (length old.types) key p) = record {
         there = subst (λ (x : HeldPackage). IsHeld new.types x) same there;
-        contents = λ naming. contents_found naming key packages p found ∙ ap Some (sym (adds.contents naming));
+        contents = λ numbering. contents_found numbering key packages p found ∙ ap Some (sym (adds.contents numbering));
       } in
-      let others = all_implies (IsSuppliedAs packages old) (IsSuppliedAs packages new) (handed_expanded packages old new adding_expands) old.packages h in
+      let others = all_implies (IsSuppliedAs packages old) (IsSuppliedAs packages new) (supplied_expanded packages old new adding_expands) old.packages h in
       record {
         grows = adding_expands;
         supplied = subst (AllByRecursion (IsSuppliedAs packages new)) (sym appended) (all_more (IsSuppliedAs packages new) old.packages (moved_package (length old.types) key p) others one);
@@ -56,18 +56,18 @@ module _ (packages : List (Key × PackageParts)) (old new : Parts) (key : Key) (
       }
 
 -- no package was supplied
-pub not_handed : (packages : List (Key × PackageParts)) (key : Key) → lookup (λ k. same_key key k) packages ≡ None → IsNotSupplied packages key
-not_handed packages key h = record { is = λ naming. none_found naming key packages h }
+pub not_supplied : (packages : List (Key × PackageParts)) (key : Key) → lookup (λ k. same_key key k) packages ≡ None → IsNotSupplied packages key
+not_supplied packages key h = record { is = λ numbering. none_found numbering key packages h }
 
-handed_at : (packages : List (Key × PackageParts)) (g : Parts) (ps : List HeldPackage) (i : ℕ) (p : HeldPackage) → AllByRecursion (IsSuppliedAs packages g) ps → slice_get ps i ≡ Some p → IsSuppliedAs packages g p
-handed_at packages g [] i p h is = absurd (cc)
-handed_at packages g (q ∷ ps) zero p h is = let same : q ≡ p = cc in subst (IsSuppliedAs packages g) same h.0
-handed_at packages g (q ∷ ps) (suc i) p h is = handed_at packages g ps i p h.1 is
+supplied_at : (packages : List (Key × PackageParts)) (g : Parts) (ps : List HeldPackage) (i : ℕ) (p : HeldPackage) → AllByRecursion (IsSuppliedAs packages g) ps → slice_get ps i ≡ Some p → IsSuppliedAs packages g p
+supplied_at packages g [] i p h is = absurd (cc)
+supplied_at packages g (q ∷ ps) zero p h is = let same : q ≡ p = cc in subst (IsSuppliedAs packages g) same h.0
+supplied_at packages g (q ∷ ps) (suc i) p h is = supplied_at packages g ps i p h.1 is
 
 -- the package that a graph holds under a number has the contents that were supplied under its key
 pub loaded_contents : (packages : List (Key × PackageParts)) (old new : Parts) (key : Key) (id : ℕ) (p : HeldPackage) → Loads packages old new key id → slice_get new.packages id ≡ Some p
-    → (naming : Naming) → package_of key (handed naming packages) ≡ Some (contents_in naming new p)
-loaded_contents packages old new key id p l is naming =
+    → (numbering : Numbering) → package_of key (supplied_packages numbering packages) ≡ Some (contents_in numbering new p)
+loaded_contents packages old new key id p l is numbering =
     let keys : Some p.key ≡ Some key = sym (ap (option_map (λ (x : HeldPackage). x.key)) is) ∙ l.keyed in
     let same : p.key ≡ key = cc in
-    subst (λ (k : Key). package_of k (handed naming packages) ≡ Some (contents_in naming new p)) same ((handed_at packages new new.packages id p l.supplied is).contents naming)
+    subst (λ (k : Key). package_of k (supplied_packages numbering packages) ≡ Some (contents_in numbering new p)) same ((supplied_at packages new new.packages id p l.supplied is).contents numbering)

@@ -1,5 +1,5 @@
 -- Names of nodes, and of imports.
-use Rattle.wac_resolution_state.proofs.Common.{◌≡◌, ◌∙◌, ℕ, suc, List, [], ◌∷◌, Option, Some, None, Bool, true, false, cond, Bor, refl, sym, ap, map, is_some, slice_get, option_map, option_and_then, string_bytes, filter_map, bytes_eq, slice_get-map, ItemKind, InterfaceId, Meaning, as_interface, Named, look_up, id_of, Names, NodeId, Parts, means, entry_means, origin_at, EntriesMean, Naming, HeldPackage, IsSound, imports_from, Node, instance_id, own_name, instance_of, node_at, import_name, alias_name, import_of, imports}
+use Rattle.wac_resolution_state.proofs.Common.{◌≡◌, ◌∙◌, ℕ, suc, List, [], ◌∷◌, Option, Some, None, Bool, true, false, cond, Bor, refl, sym, ap, map, is_some, slice_get, option_map, option_and_then, string_bytes, filter_map, bytes_eq, slice_get-map, ItemKind, InterfaceId, Meaning, as_interface, Named, look_up, id_of, Names, NodeId, Parts, means, entry_means, origin_at, EntriesMean, Numbering, HeldPackage, IsSound, imports_from, Node, instance_id, own_name, instance_of, node_at, import_name, alias_name, import_of, imports}
 use Rattle.std.specs.Option.{option_or}
 use Rattle.wac_graph_types.specs.declared.kind.ItemKind.TheVariants as kinds
 use Rattle.wac_graph_types.specs.declared.kind.Sort.TheVariants as sorts
@@ -24,8 +24,8 @@ id_is f (Some (entries.Func g)) m origin h law = absurd (cc)
 id_is f (Some (entries.Interface i)) m origin h law = parts.interface_id f m origin i (law (entries.Interface i) refl)
 id_is f (Some (entries.World w)) m origin h law = absurd (cc)
 
-pub interface_id_is : (g : Parts) (i : InterfaceId) → EntriesMean g → Names g.types (kinds.Instance i) → (naming : Naming) → id_of (entry_means naming g i.0) ≡ written_id g.types i.0
-interface_id_is g i law named naming = id_is (entry_means naming g) (slice_get g.types i.0) (entry_means naming g i.0) (naming (origin_at g i.0)) named.1 (λ e at. law naming i.0 e at)
+pub interface_id_is : (g : Parts) (i : InterfaceId) → EntriesMean g → Names g.types (kinds.Instance i) → (numbering : Numbering) → id_of (entry_means numbering g i.0) ≡ written_id g.types i.0
+interface_id_is g i law named numbering = id_is (entry_means numbering g) (slice_get g.types i.0) (entry_means numbering g i.0) (numbering (origin_at g i.0)) named.1 (λ e at. law numbering i.0 e at)
 
 -- a node whose kind is read
 node_there : (g : Parts) (node : ℕ) (k : ItemKind) → kind_in g.nodes node ≡ Some k → (n : GraphNode) × (slice_get g.nodes node ≡ Some n) × (n.kind ≡ k)
@@ -36,20 +36,20 @@ node_there g node k h = go (slice_get g.nodes node) refl h
     go (Some n) at is = (n, at, (cc))
 
 pub instance_named : (g : Parts) (node : ℕ) (i : InterfaceId) → EntriesMean g → kind_in g.nodes node ≡ Some (kinds.Instance i) → Names g.types (kinds.Instance i)
-    → (naming : Naming) (declared : Named ℕ) → option_and_then instance_id (node_at (composition_of naming g declared) node) ≡ written_id g.types i.0
-instance_named g node i law kind named naming declared =
+    → (numbering : Numbering) (declared : Named ℕ) → option_and_then instance_id (node_at (composition_of numbering g declared) node) ≡ written_id g.types i.0
+instance_named g node i law kind named numbering declared =
     let n = node_there g node (kinds.Instance i) kind in
-    ap (option_and_then instance_id) (slice_get-map (node_of naming g) g.nodes node ∙ ap (option_map (node_of naming g)) n.1)
-    ∙ ap (λ (k : ItemKind). option_and_then id_of (instance_of (means naming g k))) n.2
-    ∙ interface_id_is g i law named naming
+    ap (option_and_then instance_id) (slice_get-map (node_of numbering g) g.nodes node ∙ ap (option_map (node_of numbering g)) n.1)
+    ∙ ap (λ (k : ItemKind). option_and_then id_of (instance_of (means numbering g k))) n.2
+    ∙ interface_id_is g i law named numbering
 
 pub other_unnamed : (g : Parts) (node : ℕ) (k : ItemKind) → kind_in g.nodes node ≡ Some k → ((i : InterfaceId) → k ≡ kinds.Instance i → ⊥)
-    → (naming : Naming) (declared : Named ℕ) → option_and_then instance_id (node_at (composition_of naming g declared) node) ≡ None
-other_unnamed g node k kind none naming declared =
+    → (numbering : Numbering) (declared : Named ℕ) → option_and_then instance_id (node_at (composition_of numbering g declared) node) ≡ None
+other_unnamed g node k kind none numbering declared =
     let n = node_there g node k kind in
-    ap (option_and_then instance_id) (slice_get-map (node_of naming g) g.nodes node ∙ ap (option_map (node_of naming g)) n.1)
-    ∙ ap (λ (l : ItemKind). option_and_then id_of (instance_of (means naming g l))) n.2
-    ∙ ap (option_and_then id_of) (no_instance (entry_means naming g) k none)
+    ap (option_and_then instance_id) (slice_get-map (node_of numbering g) g.nodes node ∙ ap (option_map (node_of numbering g)) n.1)
+    ∙ ap (λ (l : ItemKind). option_and_then id_of (instance_of (means numbering g l))) n.2
+    ∙ ap (option_and_then id_of) (no_instance (entry_means numbering g) k none)
 
 -- ---- own names
 
@@ -74,11 +74,11 @@ form_alias ps (instantiation p arguments) = go (slice_get ps p)
     go (Some h) = refl
 
 abbrev OwnName : Parts → ℕ → Option (List ℕ) → Type 0
-OwnName g node r = (naming : Naming) (declared : Named ℕ) → option_and_then own_name (node_at (composition_of naming g declared) node) ≡ r
+OwnName g node r = (numbering : Numbering) (declared : Named ℕ) → option_and_then own_name (node_at (composition_of numbering g declared) node) ≡ r
 
 own_is : (g : Parts) (node : ℕ) (n : GraphNode) (a b : Option (List ℕ)) → slice_get g.nodes node ≡ Some n → import_in n.form ≡ a → option_map (λ s. s.1) (source_in n.form) ≡ b → OwnName g node (option_or a b)
-own_is g node n a b at is_import is_alias naming declared =
-    ap (option_and_then own_name) (slice_get-map (node_of naming g) g.nodes node ∙ ap (option_map (node_of naming g)) at)
+own_is g node n a b at is_import is_alias numbering declared =
+    ap (option_and_then own_name) (slice_get-map (node_of numbering g) g.nodes node ∙ ap (option_map (node_of numbering g)) at)
     ∙ ap (λ (x : Option (List ℕ)). option_or x (alias_name (form_in g.packages n.form))) (form_import g.packages n.form ∙ is_import)
     ∙ ap (option_or a) (form_alias g.packages n.form ∙ is_alias)
 
@@ -109,24 +109,24 @@ cons_some name x m n ms ns later = go (bytes_eq name x)
     go true = refl
     go false = later
 
-imports_there : (naming : Naming) (g : Parts) (name : List ℕ) (i : ℕ) (ns : List GraphNode) → is_some (look_up name (filter_map import_of (map (node_of naming g) ns))) ≡ is_some (look_up name (imports_from i ns))
-imports_there naming g name i [] = refl
-imports_there naming g name i (n ∷ ns) = go n.form (imports_there naming g name (suc i) ns)
+imports_there : (numbering : Numbering) (g : Parts) (name : List ℕ) (i : ℕ) (ns : List GraphNode) → is_some (look_up name (filter_map import_of (map (node_of numbering g) ns))) ≡ is_some (look_up name (imports_from i ns))
+imports_there numbering g name i [] = refl
+imports_there numbering g name i (n ∷ ns) = go n.form (imports_there numbering g name (suc i) ns)
   where
     rest : List Node
-    rest = map (node_of naming g) ns
+    rest = map (node_of numbering g) ns
 
     go : (f : Form) → is_some (look_up name (filter_map import_of rest)) ≡ is_some (look_up name (imports_from (suc i) ns))
-        → is_some (look_up name (filter_map import_of (node_of naming g (record { form = f; kind = n.kind; name = n.name }) ∷ rest))) ≡ is_some (look_up name (imports_from i (record { form = f; kind = n.kind; name = n.name } ∷ ns)))
-    go (import x) later = cons_some name x (means naming g n.kind) i (filter_map import_of rest) (imports_from (suc i) ns) later
+        → is_some (look_up name (filter_map import_of (node_of numbering g (record { form = f; kind = n.kind; name = n.name }) ∷ rest))) ≡ is_some (look_up name (imports_from i (record { form = f; kind = n.kind; name = n.name } ∷ ns)))
+    go (import x) later = cons_some name x (means numbering g n.kind) i (filter_map import_of rest) (imports_from (suc i) ns) later
     go defined later = later
     go (alias m e) later = later
     go (instantiation p arguments) later = packaged (slice_get g.packages p)
       where
-        packaged : (o : Option HeldPackage) → is_some (look_up name (filter_map import_of (record { form = instance_form o; kind = means naming g n.kind; name = n.name; arguments = arguments } ∷ rest))) ≡ is_some (look_up name (imports_from (suc i) ns))
+        packaged : (o : Option HeldPackage) → is_some (look_up name (filter_map import_of (record { form = instance_form o; kind = means numbering g n.kind; name = n.name; arguments = arguments } ∷ rest))) ≡ is_some (look_up name (imports_from (suc i) ns))
         packaged None = later
         packaged (Some h) = later
 
 -- a name is imported in the composition where it is in the graph
-pub imported_where : (naming : Naming) (g : Parts) (declared : Named ℕ) (name : List ℕ) → IsSound g → is_some (look_up name (imports (composition_of naming g declared))) ≡ is_some (look_up name g.imports)
-imported_where naming g declared name sound = imports_there naming g name 0 g.nodes ∙ ap (λ (l : Named ℕ). is_some (look_up name l)) (sym sound.imports)
+pub imported_where : (numbering : Numbering) (g : Parts) (declared : Named ℕ) (name : List ℕ) → IsSound g → is_some (look_up name (imports (composition_of numbering g declared))) ≡ is_some (look_up name g.imports)
+imported_where numbering g declared name sound = imports_there numbering g name 0 g.nodes ∙ ap (λ (l : Named ℕ). is_some (look_up name l)) (sym sound.imports)

@@ -1,5 +1,5 @@
 -- What the names at root denote.
-use Rattle.wac_resolution_state.proofs.Common.{◌≡◌, ◌∙◌, ◌<◌, ℕ, zero, suc, List, [], ◌∷◌, ◌++◌, Option, Some, None, Bool, true, false, cond, refl, sym, ap, subst, map, length, slice_get, option_map, AllByRecursion, bytes_eq, map_push, slice_get-map, slice_get_within, Span, Ident, ItemKind, KeepsNames, Meaning, Named, look_up, IsFresh, StandsFor, with_named, Names, ItemsNamed, NodeId, HeldPackage, Parts, means, Naming, Error, duplicate_name, Node, kind_at, root_scope}
+use Rattle.wac_resolution_state.proofs.Common.{◌≡◌, ◌∙◌, ◌<◌, ℕ, zero, suc, List, [], ◌∷◌, ◌++◌, Option, Some, None, Bool, true, false, cond, refl, sym, ap, subst, map, length, slice_get, option_map, AllByRecursion, bytes_eq, map_push, slice_get-map, slice_get_within, Span, Ident, ItemKind, KeepsNames, Meaning, Named, look_up, IsFresh, StandsFor, with_named, Names, ItemsNamed, NodeId, HeldPackage, Parts, means, Numbering, Error, duplicate_name, Node, kind_at, root_scope}
 use Rattle.wac_resolution_state.specs.Growth.{Grows}
 use Rattle.wac_graph.specs.Node.{Node as GraphNode}
 use Rattle.wac_resolution_rules.specs.BrokenWorlds.{IsBound}
@@ -7,7 +7,7 @@ use Rattle.wac_resolution_rules.specs.Places.{Places}
 use Rattle.wac_resolution_state.specs.Bindings.{Bindings, places_of, values_of}
 use Rattle.wac_resolution_state.specs.Named.{scope_of}
 use Rattle.wac_resolution_state.proofs.Bound.{read_found}
-use Rattle.wac_resolution_state.proofs.Scopes.{memory_told}
+use Rattle.wac_resolution_state.proofs.Scopes.{memory_model}
 use Rattle.wac_resolution_state.specs.declared.root.Root.{Root}
 use Rattle.wac_resolution_state.specs.NodeGrowth.{GrowsNodes, IsNamed}
 use Rattle.wac_resolution_state.specs.Nodes.{node_of, composition_of, kind_in, Stands, NodesStand}
@@ -16,14 +16,14 @@ use Rattle.wac_resolution_state.proofs.Composed.{still_stand}
 
 -- ---- a node's kind
 
-pub kind_means : (naming : Naming) (g : Parts) (n : ℕ) (k : ItemKind) → kind_in g.nodes n ≡ Some k → kind_at (map (node_of naming g) g.nodes) n ≡ means naming g k
-kind_means naming g n k is =
-    ap (λ (o : Option Node). elim o as (λ _. Meaning) [ None ↦ kind_at [] 0 | Some x ↦ x.kind ]) (slice_get-map (node_of naming g) g.nodes n)
+pub kind_means : (numbering : Numbering) (g : Parts) (n : ℕ) (k : ItemKind) → kind_in g.nodes n ≡ Some k → kind_at (map (node_of numbering g) g.nodes) n ≡ means numbering g k
+kind_means numbering g n k is =
+    ap (λ (o : Option Node). elim o as (λ _. Meaning) [ None ↦ kind_at [] 0 | Some x ↦ x.kind ]) (slice_get-map (node_of numbering g) g.nodes n)
     ∙ go (slice_get g.nodes n) is
   where
-    go : (o : Option GraphNode) → option_map (λ (x : GraphNode). x.kind) o ≡ Some k → elim (option_map (node_of naming g) o) as (λ _. Meaning) [ None ↦ kind_at [] 0 | Some x ↦ x.kind ] ≡ means naming g k
+    go : (o : Option GraphNode) → option_map (λ (x : GraphNode). x.kind) o ≡ Some k → elim (option_map (node_of numbering g) o) as (λ _. Meaning) [ None ↦ kind_at [] 0 | Some x ↦ x.kind ] ≡ means numbering g k
     go None h = absurd (cc)
-    go (Some x) h = (let same : x.kind ≡ k = cc in ap (means naming g) same)
+    go (Some x) h = (let same : x.kind ≡ k = cc in ap (means numbering g) same)
 
 all_at : {X : Type 0} (P : X → Type 0) (xs : List X) (i : ℕ) (x : X) → AllByRecursion P xs → slice_get xs i ≡ Some x → P x
 all_at P [] i x h is = absurd (cc)
@@ -46,19 +46,19 @@ kind_there ns n k is = go (slice_get ns n) refl is
 
 -- ---- the names
 
-each_scope : (naming : Naming) (g : Parts) (ns : Bindings NodeId) (ks : Bindings ItemKind) → EachAgrees g ns ks → map (λ (d : List ℕ × ℕ). (d.0, kind_at (map (node_of naming g) g.nodes) d.1)) (numbers_of ns) ≡ scope_of naming g (values_of ks)
-each_scope naming g [] [] h = refl
-each_scope naming g [] (k ∷ ks) h = absurd h
-each_scope naming g (n ∷ ns) [] h = absurd h
-each_scope naming g (n ∷ ns) (k ∷ ks) h =
+each_scope : (numbering : Numbering) (g : Parts) (ns : Bindings NodeId) (ks : Bindings ItemKind) → EachAgrees g ns ks → map (λ (d : List ℕ × ℕ). (d.0, kind_at (map (node_of numbering g) g.nodes) d.1)) (numbers_of ns) ≡ scope_of numbering g (values_of ks)
+each_scope numbering g [] [] h = refl
+each_scope numbering g [] (k ∷ ks) h = absurd h
+each_scope numbering g (n ∷ ns) [] h = absurd h
+each_scope numbering g (n ∷ ns) (k ∷ ks) h =
     let name : n.0 ≡ k.0 = sym h.0.name in
-    let kind : kind_at (map (node_of naming g) g.nodes) n.1.1.0 ≡ means naming g k.1.1 = kind_means naming g n.1.1.0 k.1.1 h.0.kind in
-    let rest : map (λ (d : List ℕ × ℕ). (d.0, kind_at (map (node_of naming g) g.nodes) d.1)) (numbers_of ns) ≡ scope_of naming g (values_of ks) = each_scope naming g ns ks h.1 in
+    let kind : kind_at (map (node_of numbering g) g.nodes) n.1.1.0 ≡ means numbering g k.1.1 = kind_means numbering g n.1.1.0 k.1.1 h.0.kind in
+    let rest : map (λ (d : List ℕ × ℕ). (d.0, kind_at (map (node_of numbering g) g.nodes) d.1)) (numbers_of ns) ≡ scope_of numbering g (values_of ks) = each_scope numbering g ns ks h.1 in
     cc
 
 -- the root scope of the composition is that in which types are resolved
-pub scope_agrees : (naming : Naming) (g : Parts) (root : Root) → Agrees g root → root_scope (composed naming g root) ≡ scope_of naming g (values_of root.kinds)
-scope_agrees naming g root h = each_scope naming g root.nodes root.kinds h.names
+pub scope_agrees : (numbering : Numbering) (g : Parts) (root : Root) → Agrees g root → root_scope (composed numbering g root) ≡ scope_of numbering g (values_of root.kinds)
+scope_agrees numbering g root h = each_scope numbering g root.nodes root.kinds h.names
 
 each_named : (g : Parts) (ns : Bindings NodeId) (ks : Bindings ItemKind) → NodesStand g → EachAgrees g ns ks → ItemsNamed g.types (values_of ks)
 each_named g [] [] stand h = tt
@@ -183,17 +183,17 @@ binds old new before after x node k h fresh named kind nodes kinds = record {
         (subst (λ (ks : Bindings ItemKind). EachAgrees new (with_named before.nodes x.string (x.span, node)) ks) (sym kinds)
         (each_more new before.nodes before.kinds (x.string, (x.span, node)) (x.string, (x.span, k)) (each_still old new before.nodes before.kinds named.grows.kinds h.names) (record { name = refl; place = refl; kind = kind })));
   };
-  is = λ naming.
-      ap (λ (ns : Bindings NodeId). composition_of naming new (numbers_of ns)) nodes
-      ∙ ap (composition_of naming new) (map_push (λ (b : List ℕ × (Span × NodeId)). (b.0, b.1.1.0)) before.nodes (x.string, (x.span, node)))
-      ∙ named.is naming (with_named (numbers_of before.nodes) x.string node.0);
+  is = λ numbering.
+      ap (λ (ns : Bindings NodeId). composition_of numbering new (numbers_of ns)) nodes
+      ∙ ap (composition_of numbering new) (map_push (λ (b : List ℕ × (Span × NodeId)). (b.0, b.1.1.0)) before.nodes (x.string, (x.span, node)))
+      ∙ named.is numbering (with_named (numbers_of before.nodes) x.string node.0);
   places = ap places_of nodes ∙ map_push (λ (b : List ℕ × (Span × NodeId)). (b.0, b.1.0)) before.nodes (x.string, (x.span, node));
 }
 
 -- the name was bound before
 pub bound_already : (root : Root) (x : Ident) (previous : Span) (e : Error) → look_up x.string (places root) ≡ Some previous → e ≡ duplicate_name x.string x.span previous
-    → (naming : Naming) (g : Parts) (all : Places) → all.bound ≡ places root → IsBound (composed naming g root) all x e
-bound_already root x previous e is told naming g all same = go (look_up x.string root.nodes) refl
+    → (numbering : Numbering) (g : Parts) (all : Places) → all.bound ≡ places root → IsBound (composed numbering g root) all x e
+bound_already root x previous e is error_is numbering g all same = go (look_up x.string root.nodes) refl
   where
     go : (o : Option (Span × NodeId)) → look_up x.string root.nodes ≡ o → (n : ℕ) × (at : Span) × StandsFor (numbers_of root.nodes) x.string n × StandsFor all.bound x.string at × (e ≡ duplicate_name x.string x.span at)
     go None none = absurd (let p : look_up x.string (places root) ≡ None = fresh_read (λ (b : Span × NodeId). b.0) root.nodes x.string none in cc)
@@ -202,7 +202,7 @@ bound_already root x previous e is told naming g all same = go (look_up x.string
       previous,
       read_found (λ (c : Span × NodeId). c.1.0) x.string root.nodes ∙ ap (option_map (λ (c : Span × NodeId). c.1.0)) found,
       ap (look_up x.string) same ∙ is,
-      told,
+      error_is,
     )
 
 -- ---- a name is looked up
@@ -225,4 +225,4 @@ number_fresh root name is = fresh_read (λ (b : Span × NodeId). b.1.0) root.nod
 pub place_fresh : (root : Root) (name : List ℕ) → look_up name (places root) ≡ None → IsFresh name root.nodes
 place_fresh root name is = fresh_back (λ (b : Span × NodeId). b.0) root.nodes name is
 
-pub ruleset nodes_found = (node_is, number_fresh, place_fresh, memory_told)
+pub ruleset nodes_found = (node_is, number_fresh, place_fresh, memory_model)

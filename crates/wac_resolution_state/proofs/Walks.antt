@@ -1,5 +1,5 @@
 -- Later segments, in order.
-use Rattle.wac_resolution_state.proofs.Common.{◌≡◌, ◌∙◌, ◌⊎◌, inl, inr, ◌<◌, ◌≤◌, ◌+◌, ℕ, List, [], ◌∷◌, ◌++◌, Some, None, take, drop, length, get_or, refl, sym, ap, subst, arith, slice_get, drop_more, drop_all, take_more, take_all, length-drop, length-map, get_or-map, slice_get-get_or, slice_get_cases, Span, ItemKind, export_of, Names, Parts, means, Naming, last_of, IsMember, steps_on}
+use Rattle.wac_resolution_state.proofs.Common.{◌≡◌, ◌∙◌, ◌⊎◌, inl, inr, ◌<◌, ◌≤◌, ◌+◌, ℕ, List, [], ◌∷◌, ◌++◌, Some, None, take, drop, length, get_or, refl, sym, ap, subst, arith, slice_get, drop_more, drop_all, take_more, take_all, length-drop, length-map, get_or-map, slice_get-get_or, slice_get_cases, Span, ItemKind, export_of, Names, Parts, means, Numbering, last_of, IsMember, steps_on}
 use Rattle.wac_resolution_state.specs.declared.members.Missing.{Missing}
 use Rattle.wac_resolution_state.specs.Segments.{Spans, texts, MembersLead, Misses}
 
@@ -25,7 +25,7 @@ pub record Walks (g : Parts) (first : List ℕ) (from : ItemKind) (all left : Sp
   pub others : left ≡ drop before all
 
 pub walk_starts : (g : Parts) (first : List ℕ) (from : ItemKind) (all : Spans) → Names g.types from → Walks g first from all all 0 first from
-walk_starts g first from all named = record { leads = record { named = named; go = λ naming. refl }; latest = refl; others = refl }
+walk_starts g first from all named = record { leads = record { named = named; go = λ numbering. refl }; latest = refl; others = refl }
 
 module _ (g : Parts) (first : List ℕ) (from : ItemKind) (all left later : Spans) (before : ℕ) (last : List ℕ) (kind : ItemKind) (segment : List ℕ) (span : Span)
     (more : left ≡ (segment, span) ∷ later) (w : Walks g first from all left before last kind) where
@@ -41,13 +41,13 @@ module _ (g : Parts) (first : List ℕ) (from : ItemKind) (all left later : Span
   pub counts : before < length all
   counts = here.0
 
-  pub walk_on : (export : ItemKind) → Names g.types export → ((naming : Naming) → export_of (means naming g kind) segment ≡ Some (means naming g export))
+  pub walk_on : (export : ItemKind) → Names g.types export → ((numbering : Numbering) → export_of (means numbering g kind) segment ≡ Some (means numbering g export))
       → Walks g first from all later (before + 1) segment export
   walk_on export named is = record {
     leads = record {
       named = named;
-      go = λ naming. steps_on IsMember (means naming g from) (texts all) before segment (means naming g kind) (means naming g export) within (w.leads.go naming)
-          (subst (λ (s : List ℕ). export_of (means naming g kind) s ≡ Some (means naming g export)) (sym text) (is naming));
+      go = λ numbering. steps_on IsMember (means numbering g from) (texts all) before segment (means numbering g kind) (means numbering g export) within (w.leads.go numbering)
+          (subst (λ (s : List ℕ). export_of (means numbering g kind) s ≡ Some (means numbering g export)) (sym text) (is numbering));
     };
     latest = sym (ap (last_of first) (take_more (texts all) before segment within) ∙ last_after first (take before (texts all)) (get_or (texts all) before segment) ∙ text);
     others = here.2;
@@ -58,7 +58,7 @@ module _ (g : Parts) (first : List ℕ) (from : ItemKind) (all left later : Span
 
 -- the next segment is not exported
 pub walk_misses : (g : Parts) (first : List ℕ) (from : ItemKind) (all left later : Spans) (m : Missing) → left ≡ (m.segment.now, m.span) ∷ later → Walks g first from all left m.before m.last.now m.kind
-    → ((naming : Naming) → export_of (means naming g m.kind) m.segment.now ≡ None) → Misses g first from all m
+    → ((numbering : Numbering) → export_of (means numbering g m.kind) m.segment.now ≡ None) → Misses g first from all m
 walk_misses g first from all left later m more w none = record {
   leads = w.leads;
   last = w.latest;

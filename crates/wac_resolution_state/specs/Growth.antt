@@ -16,13 +16,13 @@ use Rattle.wac_graph_types.specs.Shape.{defined_value, defined_parts}
 use Rattle.wac_graph_types.specs.Table.{Names}
 use Rattle.wac_graph.specs.Graph.{Parts}
 use Rattle.wac_graph.specs.Means.{means, entry_means, declared_count}
-use Rattle.wac_graph.specs.Origin.{Naming}
+use Rattle.wac_graph.specs.Origin.{Numbering}
 
 -- the new graph has more types than the old one, and each kind means what it meant
 pub record Grows (old new : Parts) : Type 0 where
   pub same : new ≡ record old { types = new.types }
   pub named : KeepsNames old.types new.types
-  pub kinds : (naming : Naming) (k : ItemKind) → Names old.types k → means naming new k ≡ means naming old k
+  pub kinds : (numbering : Numbering) (k : ItemKind) → Names old.types k → means numbering new k ≡ means numbering old k
 
 -- and it declares no resource
 pub record GrowsPlainly (old new : Parts) : Type 0 where
@@ -33,30 +33,30 @@ pub record GrowsPlainly (old new : Parts) : Type 0 where
 pub record AddsDefined (old new : Parts) (d : DefinedType) (v : ValueType) : Type 0 where
   pub grows : GrowsPlainly old new
   pub named : Names new.types (kinds.Value v)
-  pub is : (naming : Naming)
-      → means naming new (kinds.Value v) ≡ defined_value (defined_label d) (defined_parts (entry_means naming old) d)
+  pub is : (numbering : Numbering)
+      → means numbering new (kinds.Value v) ≡ defined_value (defined_label d) (defined_parts (entry_means numbering old) d)
 
 -- one more function type, of this entry
-pub record AddsFunc (old new : Parts) (entry : Naming → Meaning) (f : FuncTypeId) : Type 0 where
+pub record AddsFunc (old new : Parts) (entry : Numbering → Meaning) (f : FuncTypeId) : Type 0 where
   pub grows : GrowsPlainly old new
   pub named : Names new.types (kinds.Func f)
-  pub is : (naming : Naming) → entry_means naming new f.0 ≡ entry naming
+  pub is : (numbering : Numbering) → entry_means numbering new f.0 ≡ entry numbering
 
 -- one more interface
-pub record AddsInterface (old new : Parts) (entry : Naming → Meaning) (i : InterfaceId) : Type 0 where
+pub record AddsInterface (old new : Parts) (entry : Numbering → Meaning) (i : InterfaceId) : Type 0 where
   pub grows : GrowsPlainly old new
   pub named : Names new.types (kinds.Instance i)
-  pub is : (naming : Naming) → entry_means naming new i.0 ≡ entry naming
+  pub is : (numbering : Numbering) → entry_means numbering new i.0 ≡ entry numbering
 
 -- one more world
-pub record AddsWorld (old new : Parts) (entry : Naming → Meaning) (w : WorldId) : Type 0 where
+pub record AddsWorld (old new : Parts) (entry : Numbering → Meaning) (w : WorldId) : Type 0 where
   pub grows : GrowsPlainly old new
   pub named : Names new.types (kinds.Component w)
-  pub is : (naming : Naming) → entry_means naming new w.0 ≡ entry naming
+  pub is : (numbering : Numbering) → entry_means numbering new w.0 ≡ entry numbering
 
 -- one more resource, which is declared
-pub record AddsResource (old new : Parts) (entry : Naming → Meaning) (r : ResourceId) : Type 0 where
+pub record AddsResource (old new : Parts) (entry : Numbering → Meaning) (r : ResourceId) : Type 0 where
   pub grows : Grows old new
   pub count : declared_count new ≡ suc (declared_count old)
   pub named : Names new.types (kinds.Ty (types.Resource r))
-  pub is : (naming : Naming) → entry_means naming new r.0 ≡ entry naming
+  pub is : (numbering : Numbering) → entry_means numbering new r.0 ≡ entry numbering

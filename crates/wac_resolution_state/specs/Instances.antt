@@ -9,7 +9,7 @@ use Rattle.wac_graph_types.specs.Shape.{exports_of, items_mean}
 use Rattle.wac_graph_types.specs.Table.{Names}
 use Rattle.wac_graph.specs.Graph.{Parts}
 use Rattle.wac_graph.specs.Means.{entry_means}
-use Rattle.wac_graph.specs.Origin.{Naming}
+use Rattle.wac_graph.specs.Origin.{Numbering}
 use Rattle.wac_resolution_rules.specs.Nodes.{instance_at}
 use Rattle.wac_resolution_state.specs.Nodes.{composition_of, kind_in}
 
@@ -17,10 +17,10 @@ use Rattle.wac_resolution_state.specs.Nodes.{composition_of, kind_in}
 pub record IsInstance (g : Parts) (node : ℕ) (i : InterfaceId) : Type 0 where
   pub kind : kind_in g.nodes node ≡ Some (kinds.Instance i)
   pub named : Names g.types (kinds.Instance i)
-  pub is : (naming : Naming) (declared : Named ℕ)
-      → instance_at (composition_of naming g declared) node ≡ Some (entry_means naming g i.0)
-  pub exports : (naming : Naming)
-      → exports_of (entry_means naming g i.0) ≡ items_mean (entry_means naming g) (interface_exports g.types i.0)
+  pub is : (numbering : Numbering) (declared : Named ℕ)
+      → instance_at (composition_of numbering g declared) node ≡ Some (entry_means numbering g i.0)
+  pub exports : (numbering : Numbering)
+      → exports_of (entry_means numbering g i.0) ≡ items_mean (entry_means numbering g) (interface_exports g.types i.0)
 
 -- the id in the entry of an interface
 abbrev pub written_id : List Entry → ℕ → Option (List ℕ)

@@ -3,7 +3,7 @@ use Rattle.std.specs.Prelude.{◌≡◌, ℕ, List, Some}
 use Rattle.wac_graph_types.specs.declared.kind.ItemKind.{ItemKind}
 use Rattle.wac_graph_types.specs.Scope.{Named}
 use Rattle.wac_graph.specs.Graph.{Parts}
-use Rattle.wac_graph.specs.Origin.{Naming}
+use Rattle.wac_graph.specs.Origin.{Numbering}
 use Rattle.wac_resolution_rules.specs.Composition.{named_at}
 use Rattle.wac_resolution_state.specs.Nodes.{composition_of, kind_in, NodesStand}
 
@@ -16,6 +16,6 @@ pub record GrowsNodes (old new : Parts) : Type 0 where
 -- the node has this name, where it had none
 pub record IsNamed (old new : Parts) (node : ℕ) (name : List ℕ) : Type 0 where
   pub grows : GrowsNodes old new
-  pub is : (naming : Naming) (declared : Named ℕ)
-      → composition_of naming new declared ≡ record (composition_of naming old declared)
-      { nodes = named_at (composition_of naming old declared).nodes node name }
+  pub is : (numbering : Numbering) (declared : Named ℕ)
+      → composition_of numbering new declared ≡ record (composition_of numbering old declared)
+      { nodes = named_at (composition_of numbering old declared).nodes node name }

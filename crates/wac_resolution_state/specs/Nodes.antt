@@ -8,7 +8,7 @@ use Rattle.wac_graph.specs.Package.{HeldPackage}
 use Rattle.wac_graph.specs.Node.{Node as GraphNode, Form, import, definition as defined, alias, instantiation, package_in, arguments_in}
 use Rattle.wac_graph.specs.Graph.{Parts}
 use Rattle.wac_graph.specs.Means.{means, declared_count}
-use Rattle.wac_graph.specs.Origin.{Naming}
+use Rattle.wac_graph.specs.Origin.{Numbering}
 use Rattle.wac_resolution_rules.specs.Composition.{Composition, Node, NodeForm, imported, definition, aliased, instantiated}
 
 -- an instance of a package has its key
@@ -24,18 +24,18 @@ form_in ps (alias node export) = aliased node export
 form_in ps (instantiation p arguments) = instance_form (slice_get ps p)
 
 -- a node, whose kind is what its kind means
-abbrev pub node_of : Naming → Parts → GraphNode → Node
-node_of naming g n = record {
+abbrev pub node_of : Numbering → Parts → GraphNode → Node
+node_of numbering g n = record {
   form = form_in g.packages n.form;
-  kind = means naming g n.kind;
+  kind = means numbering g n.kind;
   name = n.name;
   arguments = arguments_in n.form;
 }
 
 -- the composition, where these identifiers are bound to nodes at root
-abbrev pub composition_of : Naming → Parts → Named ℕ → Composition
-composition_of naming g declared = record {
-  nodes = map (node_of naming g) g.nodes;
+abbrev pub composition_of : Numbering → Parts → Named ℕ → Composition
+composition_of numbering g declared = record {
+  nodes = map (node_of numbering g) g.nodes;
   exports = g.exports;
   declared = declared;
   resources = declared_count g;

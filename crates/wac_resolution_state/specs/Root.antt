@@ -6,7 +6,7 @@ use Rattle.wac_graph_types.specs.declared.kind.ItemKind.{ItemKind}
 use Rattle.wac_graph_types.specs.Scope.{Named, IsFresh, StandsFor, with_named}
 use Rattle.wac_graph.specs.declared.node.NodeId.{NodeId}
 use Rattle.wac_graph.specs.Graph.{Parts}
-use Rattle.wac_graph.specs.Origin.{Naming}
+use Rattle.wac_graph.specs.Origin.{Numbering}
 use Rattle.wac_resolution_rules.specs.Composition.{Composition, binding}
 use Rattle.wac_resolution_state.specs.Bindings.{Bindings, places_of}
 use Rattle.wac_resolution_state.specs.declared.root.Root.{Root}
@@ -18,8 +18,8 @@ abbrev pub numbers_of : Bindings NodeId → Named ℕ
 numbers_of all = map (λ b. (b.0, b.1.1.0)) all
 
 -- the composition, with what is bound at root
-abbrev pub composed : Naming → Parts → Root → Composition
-composed naming g root = composition_of naming g (numbers_of root.nodes)
+abbrev pub composed : Numbering → Parts → Root → Composition
+composed numbering g root = composition_of numbering g (numbers_of root.nodes)
 
 -- where each name was bound
 abbrev pub places : Root → Named Span
@@ -48,7 +48,7 @@ pub record Binds (old new : Parts) (before after : Root) (x : Ident) (node : ℕ
   pub fresh : IsFresh x.string (numbers_of before.nodes)
   pub grows : GrowsNodes old new
   pub agrees : Agrees new after
-  pub is : (naming : Naming) → composed naming new after ≡ binding (composed naming old before) x.string node
+  pub is : (numbering : Numbering) → composed numbering new after ≡ binding (composed numbering old before) x.string node
   pub places : places after ≡ with_named (places before) x.string x.span
 
 -- the identifier denotes the node, which exists in each graph that the names agree with

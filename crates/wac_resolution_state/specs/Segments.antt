@@ -9,7 +9,7 @@ use Rattle.wac_graph_types.specs.Steps.{Steps}
 use Rattle.wac_graph_types.specs.Table.{Names}
 use Rattle.wac_graph.specs.Graph.{Parts}
 use Rattle.wac_graph.specs.Means.{means}
-use Rattle.wac_graph.specs.Origin.{Naming}
+use Rattle.wac_graph.specs.Origin.{Numbering}
 use Rattle.wac_ast_grammar.specs.Tree.{PackagePath}
 use Rattle.wac_resolution_rules.specs.BrokenBodies.{last_of}
 use Rattle.wac_resolution_rules.specs.Paths.{Context, key_of_path, segments_of, beginning_of, IsMember, LeadsFrom}
@@ -32,16 +32,16 @@ LeadsAs own context root p m = (from : Scope) × (beginning_of own root context.
 -- among these named kinds the segments of a path resolve to a kind
 pub record SegmentsLead (g : Parts) (ks : Named ItemKind) (p : PackagePath) (k : ItemKind) : Type 0 where
   pub named : Names g.types k
-  pub is : (naming : Naming) → LeadsFrom (scope_of naming g ks) (segments_of p) (means naming g k)
+  pub is : (numbering : Numbering) → LeadsFrom (scope_of numbering g ks) (segments_of p) (means numbering g k)
 
 -- from a kind names resolve to a kind, each an export of what the one before it denotes
 pub record MembersLead (g : Parts) (from : ItemKind) (names : List (List ℕ)) (k : ItemKind) : Type 0 where
   pub named : Names g.types k
-  pub go : (naming : Naming) → Steps IsMember (means naming g from) names (means naming g k)
+  pub go : (numbering : Numbering) → Steps IsMember (means numbering g from) names (means numbering g k)
 
 -- so many segments resolve to a kind, which does not export the next one
 pub record Misses (g : Parts) (first : List ℕ) (from : ItemKind) (rest : Spans) (m : Missing) : Type 0 where
   pub leads : MembersLead g from (take m.before (texts rest)) m.kind
   pub last : m.last.now ≡ last_of first (take m.before (texts rest))
   pub stands : slice_get rest m.before ≡ Some (m.segment.now, m.span)
-  pub none : (naming : Naming) → export_of (means naming g m.kind) m.segment.now ≡ None
+  pub none : (numbering : Numbering) → export_of (means numbering g m.kind) m.segment.now ≡ None

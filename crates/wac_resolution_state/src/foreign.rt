@@ -10,9 +10,9 @@ ghost use Rattle.wac_ast_base.specs.Names.{package_path_of};
 ghost use Rattle.wac_ast_grammar.specs.Segments.{package_name_span};
 ghost use Rattle.wac_graph.specs.Graph.{Parts};
 ghost use Rattle.wac_graph.specs.Means.{means};
-ghost use Rattle.wac_graph.specs.Origin.{Naming};
+ghost use Rattle.wac_graph.specs.Origin.{Numbering};
 ghost use Rattle.wac_resolution_errors.specs.Error.{package_missing_export, unknown_package};
-ghost use Rattle.wac_resolution_errors.specs.Told.{told};
+ghost use Rattle.wac_resolution_errors.specs.ErrorModel.{error_model};
 ghost use Rattle.wac_resolution_rules.specs.BrokenBodies.{ForeignPathBroken, path_broken};
 ghost use Rattle.wac_resolution_rules.specs.Errors.{ErrorSays};
 ghost use Rattle.wac_resolution_rules.specs.Paths.{key_of_path, segments_of};
@@ -81,7 +81,7 @@ fn segments_before(
 
 /// What is reported of a package that was not supplied.
 fn unknown(alloc: Global, path: &PackagePath<'_>) -> Result<Error, AllocError>
-    ensures { IfOk result (λ e. told e
+    ensures { IfOk result (λ e. error_model e
         ≡ unknown_package path.now.name.now (package_name_span (package_path_of path.now))) }
 {
     Ok(Error::UnknownPackage {
@@ -97,7 +97,7 @@ fn not_defined(
     first: &str,
     span: SourceSpan,
 ) -> Result<Error, AllocError>
-    ensures { IfOk result (λ e. told e ≡ package_missing_export None [] path.now.name.now first.now span) }
+    ensures { IfOk result (λ e. error_model e ≡ package_missing_export None [] path.now.name.now first.now span) }
 {
     Ok(Error::PackageMissingExport {
         package: String::from_str(alloc, path.name)?,
@@ -115,9 +115,9 @@ fn not_exported(
     before: String,
     missing: Missing<'_>,
 ) -> Result<Error, AllocError>
-    ensures { IfOk result (λ e. (naming : Naming) (g : Parts)
-        → told e ≡ package_missing_export (Some (described (means naming g missing.entry.kind))) (string_bytes before)
-        path.now.name.now missing.entry.segment.now missing.entry.span) }
+    ensures { IfOk result (λ e. (numbering : Numbering) (g : Parts)
+        → error_model e ≡ package_missing_export (Some (described (means numbering g missing.entry.kind)))
+        (string_bytes before) path.now.name.now missing.entry.segment.now missing.entry.span) }
 {
     Ok(Error::PackageMissingExport {
         package: String::from_str(alloc, path.name)?,
@@ -155,8 +155,8 @@ fn defined_path(
     requires { ItemsNamed state.now.graph.types (by_name definitions.now.entries) }
     ensures ok { IfOk result (λ k. SegmentsLead state.now.graph (by_name definitions.now.entries)
         (package_path_of path.now) k) }
-    ensures err { ErrorSays result (λ e. (naming : Naming)
-        → ForeignPathBroken (scope_of naming state.now.graph (by_name definitions.now.entries))
+    ensures err { ErrorSays result (λ e. (numbering : Numbering)
+        → ForeignPathBroken (scope_of numbering state.now.graph (by_name definitions.now.entries))
         (package_path_of path.now) (segments_of (package_path_of path.now)) e) }
 {
     let mut rest = path.segment_spans();
@@ -197,9 +197,9 @@ pub fn foreign_path(
 ) -> Result<ItemKind, Error>
     requires { AllSupplied (packages_in context.now) state.old.graph }
     ensures ok { IfOk result (λ k. Found (packages_in context.now) state.old.graph state.new.graph
-        (λ naming m. LeadsAs false (context_of naming context.now) [] (package_path_of path.now) m) k) }
-    ensures err { ErrorSays result (λ e. (naming : Naming)
-        → path_broken false (context_of naming context.now) [] (package_path_of path.now) e) }
+        (λ numbering m. LeadsAs false (context_of numbering context.now) [] (package_path_of path.now) m) k) }
+    ensures err { ErrorSays result (λ e. (numbering : Numbering)
+        → path_broken false (context_of numbering context.now) [] (package_path_of path.now) e) }
 {
     let loaded = load(state, context, path)?;
     match loaded {

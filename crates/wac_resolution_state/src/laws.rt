@@ -5,7 +5,7 @@ ghost use Rattle.wac_graph_types.specs.Package.{PackageParts};
 ghost use Rattle.wac_graph_types.specs.Scope.{Named};
 ghost use Rattle.wac_graph_types.specs.Table.{ItemsNamed};
 ghost use Rattle.wac_graph.specs.Graph.{Parts};
-ghost use Rattle.wac_graph.specs.Origin.{Naming};
+ghost use Rattle.wac_graph.specs.Origin.{Numbering};
 ghost use Rattle.wac_graph.specs.Package.{Key};
 ghost use Rattle.wac_resolution_state.specs.Growth.{Grows};
 ghost use Rattle.wac_resolution_state.specs.Named.{scope_of};
@@ -30,6 +30,6 @@ pub fn growing_expands()
 pub fn scopes_are_kept()
     ensures named { (old new : Parts) (ks : Named ItemKind)
         → Expands old new → ItemsNamed old.types ks → ItemsNamed new.types ks }
-    ensures means { (old new : Parts) (ks : Named ItemKind) (naming : Naming)
-        → Expands old new → ItemsNamed old.types ks → scope_of naming new ks ≡ scope_of naming old ks }
+    ensures means { (old new : Parts) (ks : Named ItemKind) (numbering : Numbering)
+        → Expands old new → ItemsNamed old.types ks → scope_of numbering new ks ≡ scope_of numbering old ks }
 {}

@@ -4,7 +4,7 @@ ghost use Rattle.wac_lexer.specs.Span.{Span};
 ghost use Rattle.wac_ast_grammar.specs.Tree.{Ty};
 ghost use Rattle.wac_ast_base.specs.Names.{ident_of};
 ghost use Rattle.wac_graph.specs.Graph.{Parts};
-ghost use Rattle.wac_graph.specs.Origin.{Naming};
+ghost use Rattle.wac_graph.specs.Origin.{Numbering};
 ghost use Rattle.wac_resolution_rules.specs.BrokenTypes.{IsUndefined, TypeBroken};
 ghost use Rattle.wac_resolution_rules.specs.Errors.{ErrorSays};
 ghost use Rattle.wac_resolution_state.specs.Bindings.{values_of};
@@ -24,8 +24,8 @@ pub fn kind_of(
     id: &Ident<'_>,
 ) -> Result<ItemKind, Error>
     ensures ok { IfOk result (λ k. KindIs (values_of names.now) (ident_of id.now) k) }
-    ensures err { ErrorSays result (λ e. (naming : Naming) (g : Parts)
-        → IsUndefined (scope_of naming g (values_of names.now)) (ident_of id.now) e) }
+    ensures err { ErrorSays result (λ e. (numbering : Numbering) (g : Parts)
+        → IsUndefined (scope_of numbering g (values_of names.now)) (ident_of id.now) e) }
 {
     match names.find(id.string) {
         Some(kind) => Ok(kind),
@@ -44,8 +44,8 @@ pub fn named_type(
     id: &Ident<'_>,
 ) -> Result<ValueType, Error>
     ensures ok { IfOk result (λ v. ValueIs (values_of names.now) (Ty.ident (ident_of id.now)) v) }
-    ensures err { ErrorSays result (λ e. (naming : Naming) (g : Parts)
-        → TypeBroken (scope_of naming g (values_of names.now)) (Ty.ident (ident_of id.now)) e) }
+    ensures err { ErrorSays result (λ e. (numbering : Numbering) (g : Parts)
+        → TypeBroken (scope_of numbering g (values_of names.now)) (Ty.ident (ident_of id.now)) e) }
 {
     match kind_of(alloc, names, id)? {
         ItemKind::Ty(Type::Resource(resource)) => Ok(ValueType::Own(resource)),
@@ -67,8 +67,8 @@ pub fn named_resource(
 ) -> Result<ResourceId, Error>
     ensures ok { IfOk result (λ r. (s : Span)
         → ValueIs (values_of names.now) (Ty.borrow (ident_of id.now) s) (ValueType.Borrow r)) }
-    ensures err { ErrorSays result (λ e. (naming : Naming) (g : Parts) (s : Span)
-        → TypeBroken (scope_of naming g (values_of names.now)) (Ty.borrow (ident_of id.now) s) e) }
+    ensures err { ErrorSays result (λ e. (numbering : Numbering) (g : Parts) (s : Span)
+        → TypeBroken (scope_of numbering g (values_of names.now)) (Ty.borrow (ident_of id.now) s) e) }
 {
     match kind_of(alloc, names, id)? {
         ItemKind::Ty(Type::Resource(resource)) => Ok(resource),

@@ -1,8 +1,8 @@
 //! Nodes.
 ghost use Rattle.std.specs.Prelude.{◌≡◌, ◌<◌, OnOk, IfOk, IfErr, length, option_map, option_and_then, ℕ};
 ghost use Rattle.wac_graph_types.specs.Scope.{Named};
-ghost use Rattle.wac_graph.specs.Origin.{Naming};
-ghost use Rattle.wac_resolution_errors.specs.Told.{told, operation_of};
+ghost use Rattle.wac_graph.specs.Origin.{Numbering};
+ghost use Rattle.wac_resolution_errors.specs.ErrorModel.{error_model, operation_of};
 ghost use Rattle.wac_resolution_rules.specs.BrokenExpressions.{IsNotInstance};
 ghost use Rattle.wac_resolution_rules.specs.Expressions.{instance_id as id_of_instance, own_name as name_of_node};
 ghost use Rattle.wac_resolution_rules.specs.Nodes.{node_at};
@@ -42,9 +42,9 @@ pub fn instance(
 ) -> Result<InterfaceId, Error>
     requires { node.0 < length state.now.graph.nodes }
     ensures ok { IfOk result (λ i. IsInstance state.now.graph node.0 i) }
-    ensures err { IfErr result (λ e. (naming : Naming) (declared : Named ℕ)
-        → IsNotInstance (composition_of naming state.now.graph declared) node.0
-        (operation_of operation) span (told e)) }
+    ensures err { IfErr result (λ e. (numbering : Numbering) (declared : Named ℕ)
+        → IsNotInstance (composition_of numbering state.now.graph declared) node.0
+        (operation_of operation) span (error_model e)) }
 {
     // Its contract says that the table is sound, and what its entries mean.
     let _types = state.graph.types();
@@ -72,8 +72,8 @@ fn interface_id(state: &State, interface: InterfaceId) -> Option<&str>
 /// The id of the instance that a node is, where it has one.
 pub fn instance_id(state: &State, node: NodeId) -> Option<&str>
     requires { node.0 < length state.now.graph.nodes }
-    ensures { (naming : Naming) (declared : Named ℕ)
-        → option_and_then id_of_instance (node_at (composition_of naming state.now.graph declared) node.0)
+    ensures { (numbering : Numbering) (declared : Named ℕ)
+        → option_and_then id_of_instance (node_at (composition_of numbering state.now.graph declared) node.0)
         ≡ option_map (λ s. s.now) result }
 {
     // Its contract says that the table is sound, and what its entries mean.
@@ -87,8 +87,8 @@ pub fn instance_id(state: &State, node: NodeId) -> Option<&str>
 /// The name under which a node is imported, or else the name of the export whose alias it is.
 pub fn own_name(state: &State, node: NodeId) -> Option<&str>
     requires { node.0 < length state.now.graph.nodes }
-    ensures { (naming : Naming) (declared : Named ℕ)
-        → option_and_then name_of_node (node_at (composition_of naming state.now.graph declared) node.0)
+    ensures { (numbering : Numbering) (declared : Named ℕ)
+        → option_and_then name_of_node (node_at (composition_of numbering state.now.graph declared) node.0)
         ≡ option_map (λ s. s.now) result }
 {
     if let Some(name) = state.graph.import_name(node) {

@@ -5,9 +5,9 @@ ghost use Rattle.wac_graph_types.specs.Table.{ItemsNamed};
 ghost use Rattle.wac_ast_base.specs.Names.{package_path_of};
 ghost use Rattle.wac_graph.specs.Graph.{Parts};
 ghost use Rattle.wac_graph.specs.Means.{means};
-ghost use Rattle.wac_graph.specs.Origin.{Naming};
+ghost use Rattle.wac_graph.specs.Origin.{Numbering};
 ghost use Rattle.wac_resolution_errors.specs.Error.{package_path_missing_export};
-ghost use Rattle.wac_resolution_errors.specs.Told.{told};
+ghost use Rattle.wac_resolution_errors.specs.ErrorModel.{error_model};
 ghost use Rattle.wac_resolution_rules.specs.BrokenBodies.{OwnPathBroken};
 ghost use Rattle.wac_resolution_rules.specs.Errors.{ErrorSays};
 ghost use Rattle.wac_resolution_rules.specs.Paths.{segments_of};
@@ -24,9 +24,9 @@ use wac_resolution_errors::Error;
 
 /// What is reported of a segment that is not exported.
 fn not_exported(alloc: Global, missing: Missing<'_>) -> Result<Error, AllocError>
-    ensures { IfOk result (λ e. (naming : Naming) (g : Parts)
-        → told e ≡ package_path_missing_export missing.entry.last.now (described (means naming g missing.entry.kind))
-        missing.entry.segment.now missing.entry.span) }
+    ensures { IfOk result (λ e. (numbering : Numbering) (g : Parts)
+        → error_model e ≡ package_path_missing_export missing.entry.last.now
+        (described (means numbering g missing.entry.kind)) missing.entry.segment.now missing.entry.span) }
 {
     Ok(Error::PackagePathMissingExport {
         name: String::from_str(alloc, missing.last)?,
@@ -44,8 +44,8 @@ pub fn own_path(
 ) -> Result<ItemKind, Error>
     requires { ItemsNamed state.now.graph.types (values_of root.now) }
     ensures ok { IfOk result (λ k. SegmentsLead state.now.graph (values_of root.now) (package_path_of path.now) k) }
-    ensures err { ErrorSays result (λ e. (naming : Naming)
-        → OwnPathBroken (scope_of naming state.now.graph (values_of root.now)) (package_path_of path.now)
+    ensures err { ErrorSays result (λ e. (numbering : Numbering)
+        → OwnPathBroken (scope_of numbering state.now.graph (values_of root.now)) (package_path_of path.now)
         (segments_of (package_path_of path.now)) e) }
 {
     let mut rest = path.segment_spans();

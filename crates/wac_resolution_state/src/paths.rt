@@ -4,7 +4,7 @@ ghost use Rattle.std.specs.Str.{bytes_eq};
 ghost use Rattle.wac_graph_types.specs.Table.{ItemsNamed};
 ghost use Rattle.wac_ast_base.specs.Names.{package_path_of};
 ghost use Rattle.wac_ast_uses.specs.Uses.{use_path_of, world_ref_of};
-ghost use Rattle.wac_graph.specs.Origin.{Naming};
+ghost use Rattle.wac_graph.specs.Origin.{Numbering};
 ghost use Rattle.wac_resolution_rules.specs.BrokenBodies.{PathBroken, UsePathBroken};
 ghost use Rattle.wac_resolution_rules.specs.BrokenWorlds.{WorldRefBroken};
 ghost use Rattle.wac_resolution_rules.specs.Errors.{ErrorSays};
@@ -40,10 +40,10 @@ pub fn path(
     requires root { ItemsNamed state.old.graph.types (values_of root.now) }
     requires supplied { AllSupplied (packages_in context.now) state.old.graph }
     ensures ok { IfOk result (λ k. Found (packages_in context.now) state.old.graph state.new.graph
-        (λ naming m. LeadsTo (context_of naming context.now) (scope_of naming state.old.graph (values_of root.now))
-        (package_path_of path.now) m) k) }
-    ensures err { ErrorSays result (λ e. (naming : Naming)
-        → PathBroken (context_of naming context.now) (scope_of naming state.old.graph (values_of root.now))
+        (λ numbering m. LeadsTo (context_of numbering context.now)
+        (scope_of numbering state.old.graph (values_of root.now)) (package_path_of path.now) m) k) }
+    ensures err { ErrorSays result (λ e. (numbering : Numbering)
+        → PathBroken (context_of numbering context.now) (scope_of numbering state.old.graph (values_of root.now))
         (package_path_of path.now) e) }
 {
     if is_own(context, path) {
@@ -62,10 +62,10 @@ pub fn use_path(
     requires root { ItemsNamed state.old.graph.types (values_of root.now) }
     requires supplied { AllSupplied (packages_in context.now) state.old.graph }
     ensures ok { IfOk result (λ k. Found (packages_in context.now) state.old.graph state.new.graph
-        (λ naming m. UseNames (context_of naming context.now) (scope_of naming state.old.graph (values_of root.now))
-        (use_path_of path.now) m) k) }
-    ensures err { ErrorSays result (λ e. (naming : Naming)
-        → UsePathBroken (context_of naming context.now) (scope_of naming state.old.graph (values_of root.now))
+        (λ numbering m. UseNames (context_of numbering context.now)
+        (scope_of numbering state.old.graph (values_of root.now)) (use_path_of path.now) m) k) }
+    ensures err { ErrorSays result (λ e. (numbering : Numbering)
+        → UsePathBroken (context_of numbering context.now) (scope_of numbering state.old.graph (values_of root.now))
         (use_path_of path.now) e) }
 {
     match path {
@@ -84,10 +84,10 @@ pub fn world_ref(
     requires root { ItemsNamed state.old.graph.types (values_of root.now) }
     requires supplied { AllSupplied (packages_in context.now) state.old.graph }
     ensures ok { IfOk result (λ k. Found (packages_in context.now) state.old.graph state.new.graph
-        (λ naming m. WorldNames (context_of naming context.now)
-        (scope_of naming state.old.graph (values_of root.now)) (world_ref_of world.now) m) k) }
-    ensures err { ErrorSays result (λ e. (naming : Naming)
-        → WorldRefBroken (context_of naming context.now) (scope_of naming state.old.graph (values_of root.now))
+        (λ numbering m. WorldNames (context_of numbering context.now)
+        (scope_of numbering state.old.graph (values_of root.now)) (world_ref_of world.now) m) k) }
+    ensures err { ErrorSays result (λ e. (numbering : Numbering)
+        → WorldRefBroken (context_of numbering context.now) (scope_of numbering state.old.graph (values_of root.now))
         (world_ref_of world.now) e) }
 {
     match world {

@@ -8,7 +8,7 @@ ghost use Rattle.wac_graph_types.specs.Shape.{items_mean};
 ghost use Rattle.wac_graph_types.specs.Steps.{Fails};
 ghost use Rattle.wac_ast_statements.specs.Expressions.{postfix_expr_of};
 ghost use Rattle.wac_graph.specs.Graph.{export_kind};
-ghost use Rattle.wac_graph.specs.Origin.{Naming};
+ghost use Rattle.wac_graph.specs.Origin.{Numbering};
 ghost use Rattle.wac_resolution_errors.specs.Error.{Operation};
 ghost use Rattle.wac_resolution_rules.specs.Expressions.{at, accessed as accessed_name, Accesses};
 ghost use Rattle.wac_resolution_rules.specs.BrokenExpressions.{IsNotInstance, IsNotExported, AccessBroken};
@@ -80,9 +80,10 @@ pub fn access(
 ) -> Result<NodeId, Error>
     requires { node.0 < length state.old.graph.nodes }
     ensures ok { IfOk result (λ n. AccessStep state.old.graph state.new.graph node.0 (postfix_expr_of access.now) n.0) }
-    ensures err { ErrorSays result (λ e. (naming : Naming) (declared : Named ℕ)
-        → IsNotInstance (composition_of naming state.old.graph declared) node.0 Operation.access span e
-        ⊎ IsNotExported (at (composition_of naming state.old.graph declared) node.0) (postfix_expr_of access.now) e) }
+    ensures err { ErrorSays result (λ e. (numbering : Numbering) (declared : Named ℕ)
+        → IsNotInstance (composition_of numbering state.old.graph declared) node.0 Operation.access span e
+        ⊎ IsNotExported (at (composition_of numbering state.old.graph declared) node.0)
+        (postfix_expr_of access.now) e) }
 {
     let interface = instance(state, node, InstanceOperation::Access, span)?;
     let name = accessed_export(state, interface, access)?;
@@ -107,8 +108,8 @@ pub fn accesses(
     requires there { node.0 < length state.old.graph.nodes }
     ensures ok { IfOk result (λ n. AccessSteps state.old.graph state.new.graph node.0
         (map postfix_expr_of accesses.now) n.0) }
-    ensures err { ErrorSays result (λ e. (naming : Naming) (declared : Named ℕ)
-        → Fails Accesses (AccessBroken span e) (at (composition_of naming state.old.graph declared) node.0)
+    ensures err { ErrorSays result (λ e. (numbering : Numbering) (declared : Named ℕ)
+        → Fails Accesses (AccessBroken span e) (at (composition_of numbering state.old.graph declared) node.0)
         (map postfix_expr_of accesses.now)) }
 {
     let mut node = node;

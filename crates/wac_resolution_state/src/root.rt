@@ -3,7 +3,7 @@ ghost use Rattle.std.specs.Prelude.{◌≡◌, ◌<◌, [], OnOk, IfOk, length};
 ghost use Rattle.wac_graph_types.specs.Scope.{IsFresh, StandsFor};
 ghost use Rattle.wac_ast_base.specs.Names.{ident_of};
 ghost use Rattle.wac_graph.specs.Graph.{Parts};
-ghost use Rattle.wac_graph.specs.Origin.{Naming};
+ghost use Rattle.wac_graph.specs.Origin.{Numbering};
 ghost use Rattle.wac_resolution_rules.specs.BrokenTypes.{IsUndefined};
 ghost use Rattle.wac_resolution_rules.specs.BrokenWorlds.{IsBound};
 ghost use Rattle.wac_resolution_rules.specs.Errors.{ErrorSays};
@@ -58,8 +58,8 @@ impl<'a> Root<'a> {
     #[tactic(auto, using(crate::proofs::Roots::nodes_found))]
     fn check_fresh(&self, alloc: Global, id: &Ident<'_>) -> Result<(), Error>
         ensures ok { OnOk result (IsFresh id.now.string.now self.now.nodes) }
-        ensures err { ErrorSays result (λ e. (naming : Naming) (g : Parts) (all : Places)
-            → all.bound ≡ places self.now → IsBound (composed naming g self.now) all (ident_of id.now) e) }
+        ensures err { ErrorSays result (λ e. (numbering : Numbering) (g : Parts) (all : Places)
+            → all.bound ≡ places self.now → IsBound (composed numbering g self.now) all (ident_of id.now) e) }
     {
         match self.nodes.place(id.string) {
             Some(previous) => Err(Error::DuplicateName {
@@ -76,9 +76,9 @@ impl<'a> Root<'a> {
         requires there { node.0 < length state.old.graph.nodes }
         requires agrees { Agrees state.old.graph self.old }
         ensures ok { OnOk result (Binds state.old.graph state.new.graph self.old self.new (ident_of id.now) node.0) }
-        ensures err { ErrorSays result (λ e. (naming : Naming) (all : Places)
+        ensures err { ErrorSays result (λ e. (numbering : Numbering) (all : Places)
             → all.bound ≡ places self.old
-            → IsBound (composed naming state.old.graph self.old) all (ident_of id.now) e) }
+            → IsBound (composed numbering state.old.graph self.old) all (ident_of id.now) e) }
     {
         self.check_fresh(state.alloc, id)?;
         name_node(state, node, id.string)?;

@@ -8,7 +8,7 @@ ghost use Rattle.wac_graph_types.specs.Readings.{as_resource};
 ghost use Rattle.wac_graph_types.specs.Shape.{func_entry, interface_entry, world_entry, results_mean, values_mean, items_mean, uses_mean, owner_of as owner_meant};
 ghost use Rattle.wac_graph_types.specs.Table.{Names};
 ghost use Rattle.wac_graph.specs.Means.{entry_means, declared_count};
-ghost use Rattle.wac_graph.specs.Origin.{Naming};
+ghost use Rattle.wac_graph.specs.Origin.{Numbering};
 ghost use Rattle.wac_graph.specs.Resources.{resource_entry, alias_entry};
 ghost use Rattle.wac_resolution_state.specs.Growth.{AddsDefined, AddsFunc, AddsInterface, AddsWorld, AddsResource};
 
@@ -40,8 +40,8 @@ impl State {
     pub fn add_func(&mut self, func: FuncType) -> Result<FuncTypeId, AllocError>
         requires { EachKind (Names self.old.graph.types) (children (entries.Func func)) }
         ensures { IfOk result (λ f. AddsFunc self.old.graph self.new.graph
-            (λ naming. func_entry func.is_async (results_mean (entry_means naming self.old.graph) func.results)
-            (values_mean (entry_means naming self.old.graph) (by_name func.params.entries))) f) }
+            (λ numbering. func_entry func.is_async (results_mean (entry_means numbering self.old.graph) func.results)
+            (values_mean (entry_means numbering self.old.graph) (by_name func.params.entries))) f) }
     {
         Ok(self.graph.add_func_type(func)?)
     }
@@ -50,9 +50,9 @@ impl State {
     pub fn add_interface(&mut self, interface: Interface) -> Result<InterfaceId, AllocError>
         requires { EachKind (Names self.old.graph.types) (children (entries.Interface interface)) }
         ensures { IfOk result (λ i. AddsInterface self.old.graph self.new.graph
-            (λ naming. interface_entry (option_map string_bytes interface.id)
-            (uses_mean (entry_means naming self.old.graph) (by_name interface.uses.entries))
-            (items_mean (entry_means naming self.old.graph) (by_name interface.exports.entries))) i) }
+            (λ numbering. interface_entry (option_map string_bytes interface.id)
+            (uses_mean (entry_means numbering self.old.graph) (by_name interface.uses.entries))
+            (items_mean (entry_means numbering self.old.graph) (by_name interface.exports.entries))) i) }
     {
         Ok(self.graph.add_interface(interface)?)
     }
@@ -61,10 +61,10 @@ impl State {
     pub fn add_world(&mut self, world: World) -> Result<WorldId, AllocError>
         requires { EachKind (Names self.old.graph.types) (children (entries.World world)) }
         ensures { IfOk result (λ w. AddsWorld self.old.graph self.new.graph
-            (λ naming. world_entry (option_map string_bytes world.id)
-            (uses_mean (entry_means naming self.old.graph) (by_name world.uses.entries))
-            (items_mean (entry_means naming self.old.graph) (by_name world.imports.entries))
-            (items_mean (entry_means naming self.old.graph) (by_name world.exports.entries))) w) }
+            (λ numbering. world_entry (option_map string_bytes world.id)
+            (uses_mean (entry_means numbering self.old.graph) (by_name world.uses.entries))
+            (items_mean (entry_means numbering self.old.graph) (by_name world.imports.entries))
+            (items_mean (entry_means numbering self.old.graph) (by_name world.exports.entries))) w) }
     {
         Ok(self.graph.add_world(world)?)
     }
@@ -72,7 +72,7 @@ impl State {
     /// Adds a new resource.
     pub fn add_resource(&mut self, name: &str) -> Result<ResourceId, AllocError>
         ensures { IfOk result (λ r. AddsResource self.old.graph self.new.graph
-            (λ naming. resource_entry naming (declared_count self.old.graph) name.now) r) }
+            (λ numbering. resource_entry numbering (declared_count self.old.graph) name.now) r) }
     {
         let name = String::from_str(self.alloc, name)?;
         Ok(self.graph.add_resource(Resource { name, alias: None })?)
@@ -82,8 +82,8 @@ impl State {
     pub fn add_alias(&mut self, name: &str, from: ResourceId) -> Result<ResourceId, AllocError>
         requires { Names self.old.graph.types (ItemKind.Ty (Type.Resource from)) }
         ensures { IfOk result (λ r. AddsResource self.old.graph self.new.graph
-            (λ naming. alias_entry naming (declared_count self.old.graph) name.now
-            (entry_means naming self.old.graph from.0)) r) }
+            (λ numbering. alias_entry numbering (declared_count self.old.graph) name.now
+            (entry_means numbering self.old.graph from.0)) r) }
     {
         let owner = self.owner(from);
         let name = String::from_str(self.alloc, name)?;
@@ -97,9 +97,9 @@ impl State {
     /// The interface that owns the source of a resource that is an alias.
     fn owner(&self, resource: ResourceId) -> Option<InterfaceId>
         requires { Names self.now.graph.types (ItemKind.Ty (Type.Resource resource)) }
-        ensures means { (naming : Naming)
-            → of_child (entry_means naming self.now.graph) (option_map (λ i. ItemKind.Instance i) result) ≡ owner_meant
-            (entry_means naming self.now.graph resource.0) }
+        ensures means { (numbering : Numbering)
+            → of_child (entry_means numbering self.now.graph) (option_map (λ i. ItemKind.Instance i) result)
+            ≡ owner_meant (entry_means numbering self.now.graph resource.0) }
         ensures named { IfSome (option_map (λ i. ItemKind.Instance i) result) (Names self.now.graph.types) }
     {
         // Its contract says that the table is sound, and what its entries mean.

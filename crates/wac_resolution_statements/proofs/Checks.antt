@@ -1,5 +1,5 @@
 -- Names that are tested.
-use Rattle.wac_resolution_statements.proofs.Common.{◌≡◌, ◌∙◌, ℕ, zero, suc, List, [], ◌∷◌, Option, Some, None, Bool, true, false, cond, refl, sym, ap, subst, length, ◌<◌, slice_get, option_map, option_and_then, IfSome, IsSome, AllByRecursion, bytes_eq, slice_get-map, Span, ItemKind, Named, look_up, IsFresh, StandsFor, NodeId, Parts, means, entry_means, Naming, Error, export_conflict, duplicate_extern_name, IsExportConflict, IsExportedAlready, names_of, node_at, is_definition, Places, if_definition, definition_bound, Bindings, values_of, Root, instance_form, form_in, node_of, composition_of, kind_in, Stands, NodesStand, numbers_of, composed, places, Agrees, bound_there, number_fresh, place_fresh, fresh_read}
+use Rattle.wac_resolution_statements.proofs.Common.{◌≡◌, ◌∙◌, ℕ, zero, suc, List, [], ◌∷◌, Option, Some, None, Bool, true, false, cond, refl, sym, ap, subst, length, ◌<◌, slice_get, option_map, option_and_then, IfSome, IsSome, AllByRecursion, bytes_eq, slice_get-map, Span, ItemKind, Named, look_up, IsFresh, StandsFor, NodeId, Parts, means, entry_means, Numbering, Error, export_conflict, duplicate_extern_name, IsExportConflict, IsExportedAlready, names_of, node_at, is_definition, Places, if_definition, definition_bound, Bindings, values_of, Root, instance_form, form_in, node_of, composition_of, kind_in, Stands, NodesStand, numbers_of, composed, places, Agrees, bound_there, number_fresh, place_fresh, fresh_read}
 use Rattle.wac_graph_types.specs.declared.kind.ExternKind.TheVariants as sides
 use Rattle.wac_graph_types.specs.Words as words
 use Rattle.wac_graph_types.proofs.Shapes.{word_is}
@@ -59,11 +59,11 @@ is_definition_sort nodes.Alias h = absurd (cc h)
 is_definition_sort (nodes.Instantiation p) h = absurd (cc h)
 
 -- what a name is bound to
-bound_to : (naming : Naming) (g : Parts) (root : Root) (name : List ℕ) (n : NodeId) (x : GraphNode) → look_up name (values_of root.nodes) ≡ Some n → slice_get g.nodes n.0 ≡ Some x
-    → definition_bound (composed naming g root) name ≡ if_definition (node_of naming g x)
-bound_to naming g root name n x is at =
-    ap (λ (o : Option ℕ). option_and_then if_definition (option_and_then (node_at (composed naming g root)) o)) (number_found root.nodes name n is)
-    ∙ ap (option_and_then if_definition) (slice_get-map (node_of naming g) g.nodes n.0 ∙ ap (option_map (node_of naming g)) at)
+bound_to : (numbering : Numbering) (g : Parts) (root : Root) (name : List ℕ) (n : NodeId) (x : GraphNode) → look_up name (values_of root.nodes) ≡ Some n → slice_get g.nodes n.0 ≡ Some x
+    → definition_bound (composed numbering g root) name ≡ if_definition (node_of numbering g x)
+bound_to numbering g root name n x is at =
+    ap (λ (o : Option ℕ). option_and_then if_definition (option_and_then (node_at (composed numbering g root)) o)) (number_found root.nodes name n is)
+    ∙ ap (option_and_then if_definition) (slice_get-map (node_of numbering g) g.nodes n.0 ∙ ap (option_map (node_of numbering g)) at)
 
 defined_form : (ps : List HeldPackage) (f : Form) → sort_in f ≡ defined → is_definition (form_in ps f) ≡ true
 defined_form ps (import x) h = absurd (cc)
@@ -82,56 +82,56 @@ other_form ps (instantiation p arguments) held h = go (slice_get ps p) held
     go (Some x) there = refl
 
 pub defined_here : (g : Parts) (root : Root) (name : List ℕ) (n : NodeId) (s : Sort) (k : ItemKind) → look_up name (values_of root.nodes) ≡ Some n → option_map (λ (x : GraphNode). sort_in x.form) (slice_get g.nodes n.0) ≡ Some s → s ≡ defined
-    → kind_in g.nodes n.0 ≡ Some k → (naming : Naming) → Some (means naming g k) ≡ definition_bound (composed naming g root) name
-defined_here g root name n s k is read sort kind naming = go (slice_get g.nodes n.0) refl read kind
+    → kind_in g.nodes n.0 ≡ Some k → (numbering : Numbering) → Some (means numbering g k) ≡ definition_bound (composed numbering g root) name
+defined_here g root name n s k is read sort kind numbering = go (slice_get g.nodes n.0) refl read kind
   where
-    go : (o : Option GraphNode) → slice_get g.nodes n.0 ≡ o → option_map (λ (x : GraphNode). sort_in x.form) o ≡ Some s → option_map (λ (x : GraphNode). x.kind) o ≡ Some k → Some (means naming g k) ≡ definition_bound (composed naming g root) name
+    go : (o : Option GraphNode) → slice_get g.nodes n.0 ≡ o → option_map (λ (x : GraphNode). sort_in x.form) o ≡ Some s → option_map (λ (x : GraphNode). x.kind) o ≡ Some k → Some (means numbering g k) ≡ definition_bound (composed numbering g root) name
     go None at read kind = absurd (cc read)
     go (Some x) at read kind =
         let here : sort_in x.form ≡ s = cc read in
         let same : x.kind ≡ k = cc kind in
-        sym (bound_to naming g root name n x is at
-        ∙ ap (λ (b : Bool). cond b (Some (means naming g x.kind)) None) (defined_form g.packages x.form (here ∙ sort))
-        ∙ ap (λ (l : ItemKind). Some (means naming g l)) same)
+        sym (bound_to numbering g root name n x is at
+        ∙ ap (λ (b : Bool). cond b (Some (means numbering g x.kind)) None) (defined_form g.packages x.form (here ∙ sort))
+        ∙ ap (λ (l : ItemKind). Some (means numbering g l)) same)
 
 pub not_defined : (g : Parts) (root : Root) (name : List ℕ) (n : NodeId) (s : Sort) → NodesStand g → look_up name (values_of root.nodes) ≡ Some n → option_map (λ (x : GraphNode). sort_in x.form) (slice_get g.nodes n.0) ≡ Some s → (s ≡ defined → ⊥)
-    → (naming : Naming) → None ≡ definition_bound (composed naming g root) name
-not_defined g root name n s stand is read other naming = go (slice_get g.nodes n.0) refl read
+    → (numbering : Numbering) → None ≡ definition_bound (composed numbering g root) name
+not_defined g root name n s stand is read other numbering = go (slice_get g.nodes n.0) refl read
   where
-    go : (o : Option GraphNode) → slice_get g.nodes n.0 ≡ o → option_map (λ (x : GraphNode). sort_in x.form) o ≡ Some s → None ≡ definition_bound (composed naming g root) name
+    go : (o : Option GraphNode) → slice_get g.nodes n.0 ≡ o → option_map (λ (x : GraphNode). sort_in x.form) o ≡ Some s → None ≡ definition_bound (composed numbering g root) name
     go None at read = absurd (cc read)
     go (Some x) at read =
         let here : sort_in x.form ≡ s = cc read in
-        sym (bound_to naming g root name n x is at
-        ∙ ap (λ (b : Bool). cond b (Some (means naming g x.kind)) None) (other_form g.packages x.form (node_stands g g.nodes n.0 x stand at).held (λ h. other (sym here ∙ h))))
+        sym (bound_to numbering g root name n x is at
+        ∙ ap (λ (b : Bool). cond b (Some (means numbering g x.kind)) None) (other_form g.packages x.form (node_stands g g.nodes n.0 x stand at).held (λ h. other (sym here ∙ h))))
 
-none_bound : (naming : Naming) (g : Parts) (root : Root) (name : List ℕ) → IsFresh name (numbers_of root.nodes) → None ≡ definition_bound (composed naming g root) name
-none_bound naming g root name is = sym (ap (λ (o : Option ℕ). option_and_then if_definition (option_and_then (node_at (composed naming g root)) o)) is)
+none_bound : (numbering : Numbering) (g : Parts) (root : Root) (name : List ℕ) → IsFresh name (numbers_of root.nodes) → None ≡ definition_bound (composed numbering g root) name
+none_bound numbering g root name is = sym (ap (λ (o : Option ℕ). option_and_then if_definition (option_and_then (node_at (composed numbering g root)) o)) is)
 
-pub unbound : (g : Parts) (root : Root) (name : List ℕ) → look_up name (values_of root.nodes) ≡ None → (naming : Naming) → None ≡ definition_bound (composed naming g root) name
-unbound g root name is naming = none_bound naming g root name (number_fresh root name is)
+pub unbound : (g : Parts) (root : Root) (name : List ℕ) → look_up name (values_of root.nodes) ≡ None → (numbering : Numbering) → None ≡ definition_bound (composed numbering g root) name
+unbound g root name is numbering = none_bound numbering g root name (number_fresh root name is)
 
-pub unplaced : (g : Parts) (root : Root) (name : List ℕ) → look_up name (places root) ≡ None → (naming : Naming) → None ≡ definition_bound (composed naming g root) name
-unplaced g root name is naming = none_bound naming g root name (fresh_read (λ (b : Span × NodeId). b.1.0) root.nodes name (place_fresh root name is))
+pub unplaced : (g : Parts) (root : Root) (name : List ℕ) → look_up name (places root) ≡ None → (numbering : Numbering) → None ≡ definition_bound (composed numbering g root) name
+unplaced g root name is numbering = none_bound numbering g root name (fresh_read (λ (b : Span × NodeId). b.1.0) root.nodes name (place_fresh root name is))
 
 -- ---- what is reported
 
-pub conflict_is : (g : Parts) (root : Root) (name : List ℕ) (span : Span) (help : Option (List ℕ)) (k : ItemKind) (previous : Span) (word : List ℕ) (e : Error) → ((naming : Naming) → Some (means naming g k) ≡ definition_bound (composed naming g root) name)
+pub conflict_is : (g : Parts) (root : Root) (name : List ℕ) (span : Span) (help : Option (List ℕ)) (k : ItemKind) (previous : Span) (word : List ℕ) (e : Error) → ((numbering : Numbering) → Some (means numbering g k) ≡ definition_bound (composed numbering g root) name)
     → StandsFor (places root) name previous → word ≡ words.described k → e ≡ export_conflict name word span previous help
-    → (naming : Naming) (all : Places) → all.bound ≡ places root → IsExportConflict (composed naming g root) all name span help e
-conflict_is g root name span help k previous word e bound place is told naming all same = record {
-  kind = means naming g k;
+    → (numbering : Numbering) (all : Places) → all.bound ≡ places root → IsExportConflict (composed numbering g root) all name span help e
+conflict_is g root name span help k previous word e bound place is error_is numbering all same = record {
+  kind = means numbering g k;
   definition = previous;
-  bound = sym (bound naming);
+  bound = sym (bound numbering);
   place = ap (look_up name) same ∙ place;
-  error = told ∙ ap (λ (w : List ℕ). export_conflict name w span previous help) (is ∙ sym (word_is (entry_means naming g) k));
+  error = error_is ∙ ap (λ (w : List ℕ). export_conflict name w span previous help) (is ∙ sym (word_is (entry_means numbering g) k));
 }
 
 pub exported_already : (g : Parts) (x : Externs) (name : List ℕ) (span : Span) (help : Option (List ℕ)) (previous : Span) (e : Error) → ArePlaced g x → look_up name (exported_in x) ≡ Some previous → e ≡ duplicate_extern_name sides.Export name span previous help
-    → (naming : Naming) (declared : Named ℕ) (all : Places) → all.exported ≡ exported_in x → IsExportedAlready (composition_of naming g declared) all name span help e
-exported_already g x name span help previous e placed is told naming declared all same =
+    → (numbering : Numbering) (declared : Named ℕ) (all : Places) → all.exported ≡ exported_in x → IsExportedAlready (composition_of numbering g declared) all name span help e
+exported_already g x name span help previous e placed is error_is numbering declared all same =
     let there = stands_too name (exported_in x) g.exports previous placed.exported is in
-    (there.0, previous, there.1, ap (look_up name) same ∙ is, told)
+    (there.0, previous, there.1, ap (look_up name) same ∙ is, error_is)
 
 pub unexported_yet : (g : Parts) (x : Externs) (name : List ℕ) → ArePlaced g x → look_up name (exported_in x) ≡ None → IsFresh name g.exports
 unexported_yet g x name placed is = fresh_too name (exported_in x) g.exports placed.exported is

@@ -16,7 +16,7 @@ pub use Rattle.wac_graph.specs.Graph.{Parts, arguments_of, export_kind, package_
 pub use Rattle.wac_graph.specs.Means.{EntriesMean, OriginsApart, declared_count, entry_means, means, origin_at}
 pub use Rattle.wac_graph.specs.Node.{sort_of}
 pub use Rattle.wac_graph.specs.Numbers.{numbers}
-pub use Rattle.wac_graph.specs.Origin.{IsOneToOne, Naming}
+pub use Rattle.wac_graph.specs.Origin.{IsOneToOne, Numbering}
 pub use Rattle.wac_graph.specs.Package.{HeldPackage, IsHeld, Key}
 pub use Rattle.wac_graph.specs.Sound.{IsSound, NamesNodes, imports_from}
 pub use Rattle.wac_graph.specs.declared.node.NodeId.{NodeId}
@@ -39,7 +39,7 @@ pub use Rattle.wac_graph_types.specs.declared.rules.Reason.{Reason}
 pub use Rattle.wac_lexer.specs.Span.{Span}
 pub use Rattle.wac_resolution_errors.proofs.Reports.{if_reports, reports}
 pub use Rattle.wac_resolution_errors.specs.Error.{Error, Operation, Reports, declaration_conflict, duplicate_extern_name, export_conflict, export_requires_as, import_not_in_target, missing_target_export, spread_export_no_effect, target_mismatch}
-pub use Rattle.wac_resolution_errors.specs.Told.{told}
+pub use Rattle.wac_resolution_errors.specs.ErrorModel.{error_model}
 pub use Rattle.wac_resolution_expressions.specs.Growth.{ExprBreaks, ExprStep, Extends, given_in}
 pub use Rattle.wac_resolution_rules.specs.BrokenBodies.{help_unless}
 pub use Rattle.wac_resolution_rules.specs.BrokenStatements.{ExportAsBroken, ExportOneBroken, ExportOptionsBroken, ImportNameBroken, IsExportConflict, IsExportedAlready, IsImportedAlready, IsInvalidName, IsNotWorld, IsUnnamed, TargetWorldBroken, placed_imports}

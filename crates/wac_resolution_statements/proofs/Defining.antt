@@ -1,5 +1,5 @@
 -- A definition is added, exported and bound.
-use Rattle.wac_resolution_statements.proofs.Common.{◌≡◌, ◌∙◌, ◌<◌, ℕ, List, [], ◌∷◌, ◌++◌, Option, Some, None, refl, sym, ap, subst, length, arith, slice_get, option_map, AllByRecursion, map_push, Span, Ident, ItemKind, Named, look_up, IsFresh, with_named, Names, Parts, plain_node, with_definition, means, Naming, get_kept, all_more, Error, declaration_conflict, IsExported, Composition, binding, definition, with_node, with_export, names_of, next_of, Places, Root, composition_of, kind_in, Stands, NodesStand, numbers_of, composed, Agrees, Binds, composition_defines, next_is}
+use Rattle.wac_resolution_statements.proofs.Common.{◌≡◌, ◌∙◌, ◌<◌, ℕ, List, [], ◌∷◌, ◌++◌, Option, Some, None, refl, sym, ap, subst, length, arith, slice_get, option_map, AllByRecursion, map_push, Span, Ident, ItemKind, Named, look_up, IsFresh, with_named, Names, Parts, plain_node, with_definition, means, Numbering, get_kept, all_more, Error, declaration_conflict, IsExported, Composition, binding, definition, with_node, with_export, names_of, next_of, Places, Root, composition_of, kind_in, Stands, NodesStand, numbers_of, composed, Agrees, Binds, composition_defines, next_is}
 use Rattle.wac_resolution_statements.specs.declared.externs.Externs.{Externs}
 use Rattle.wac_resolution_statements.specs.Externs.{imported_in, exported_in, ArePlaced}
 use Rattle.wac_resolution_statements.specs.Exports.{GrowsExports}
@@ -10,10 +10,10 @@ use Rattle.wac_resolution_statements.specs.Defined.{IsDefined}
 
 -- the identifier was exported before
 pub exported_before : (g : Parts) (x : Externs) (id : Ident) (export : Span) (e : Error) → ArePlaced g x → look_up id.string (exported_in x) ≡ Some export → e ≡ declaration_conflict id.string id.span export
-    → (naming : Naming) (declared : Named ℕ) (all : Places) → all.exported ≡ exported_in x → IsExported (composition_of naming g declared) all id e
-exported_before g x id export e placed is told naming declared all same =
+    → (numbering : Numbering) (declared : Named ℕ) (all : Places) → all.exported ≡ exported_in x → IsExported (composition_of numbering g declared) all id e
+exported_before g x id export e placed is error_is numbering declared all same =
     let there = stands_too id.string (exported_in x) g.exports export placed.exported is in
-    (there.0, export, there.1, ap (look_up id.string) same ∙ is, told)
+    (there.0, export, there.1, ap (look_up id.string) same ∙ is, error_is)
 
 -- ---- the node
 
@@ -74,13 +74,13 @@ defined old mid new before after x y id k n agrees placed named unexported is nu
         ap (λ (l : Named Span). names_of l) exported ∙ names_with (exported_in x) old.exports id.string id.span (length old.nodes) placed.exported
         ∙ sym (ap (λ (g : Parts). names_of g.exports) is) ∙ sym (ap (λ (g : Parts). names_of g.exports) b.grows.same);
   };
-  defines = λ naming. (
+  defines = λ numbering. (
     unexported,
     b.fresh,
-    b.is naming
-        ∙ ap (λ (g : Parts). binding (composed naming g before) id.string n) is
-        ∙ ap (λ (c : Composition). binding c id.string n) (composition_defines old (numbers_of before.nodes) id.string k naming)
-        ∙ ap (binding (with_export (with_node (composed naming old before) definition (means naming old k)) id.string (next_of (composed naming old before))) id.string) (number ∙ sym (next_is naming old (numbers_of before.nodes))),
+    b.is numbering
+        ∙ ap (λ (g : Parts). binding (composed numbering g before) id.string n) is
+        ∙ ap (λ (c : Composition). binding c id.string n) (composition_defines old (numbers_of before.nodes) id.string k numbering)
+        ∙ ap (binding (with_export (with_node (composed numbering old before) definition (means numbering old k)) id.string (next_of (composed numbering old before))) id.string) (number ∙ sym (next_is numbering old (numbers_of before.nodes))),
   );
   bound = b.places;
   imported = imported;

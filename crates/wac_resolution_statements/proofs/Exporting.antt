@@ -1,5 +1,5 @@
 -- A node is exported.
-use Rattle.wac_resolution_statements.proofs.Common.{◌≡◌, ◌∙◌, ◌<◌, ℕ, List, [], ◌∷◌, ◌++◌, Option, Some, None, refl, sym, ap, subst, length, IfSome, IsSome, AllByRecursion, map_push, Span, ItemKind, Reason, Named, with_named, Parts, means, Naming, Error, ExportAsBroken, At, at, alias_at, names_of, names_at, more_at, ExportsAs, ExportsOne, Root, Stands, NodesStand, numbers_of, composed, Agrees}
+use Rattle.wac_resolution_statements.proofs.Common.{◌≡◌, ◌∙◌, ◌<◌, ℕ, List, [], ◌∷◌, ◌++◌, Option, Some, None, refl, sym, ap, subst, length, IfSome, IsSome, AllByRecursion, map_push, Span, ItemKind, Reason, Named, with_named, Parts, means, Numbering, Error, ExportAsBroken, At, at, alias_at, names_of, names_at, more_at, ExportsAs, ExportsOne, Root, Stands, NodesStand, numbers_of, composed, Agrees}
 use Rattle.wac_graph.specs.Graph.{with_export}
 use Rattle.wac_graph.specs.Node.{Node as GraphNode}
 use Rattle.wac_resolution_state.specs.Accesses.{AliasStep}
@@ -16,13 +16,13 @@ exports_grow : (old : Parts) (exports : Named ℕ) → NodesStand old → GrowsE
 exports_grow old exports h = record { same = refl; kinds = λ n k is. is; stand = each_stands old exports old.nodes h }
 
 pub exports_as : (span : Span) (named : List ℕ → Option Reason) (old new : Parts) (root : Root) (before after : Externs) (name : List ℕ) (node : ℕ) → Agrees old root → MayExport named old root name → new ≡ with_export old name node
-    → exported_in after ≡ with_named (exported_in before) name span → imported_in after ≡ imported_in before → ExportSteps span old new root before after (name ∷ []) (λ naming c d. Under named (λ s. ExportsAs s c name node d))
+    → exported_in after ≡ with_named (exported_in before) name span → imported_in after ≡ imported_in before → ExportSteps span old new root before after (name ∷ []) (λ numbering c d. Under named (λ s. ExportsAs s c name node d))
 exports_as span named old new root before after name node agrees may is exported imported = record {
   grows = subst (GrowsExports old) (sym is) (exports_grow old (with_named old.exports name node) agrees.nodes);
   exports = ap (λ (g : Parts). names_of g.exports) is ∙ map_push (λ (e : List ℕ × ℕ). e.0) old.exports (name, node);
   imported = imported;
   exported = exported;
-  goes = λ naming s same. (may.undefined naming, may.new, ap (λ (f : List ℕ → Option Reason). f name) same ∙ may.passes, ap (λ (g : Parts). composed naming g root) is);
+  goes = λ numbering s same. (may.undefined numbering, may.new, ap (λ (f : List ℕ → Option Reason). f name) same ∙ may.passes, ap (λ (g : Parts). composed numbering g root) is);
 }
 
 -- ---- the alias of an export
@@ -41,29 +41,29 @@ nodes_then_exports old mid new p q = record {
 }
 
 exports_one : (span : Span) (named : List ℕ → Option Reason) (old mid new : Parts) (root : Root) (before after : Externs) (name : List ℕ) (node n : ℕ) (k : ItemKind) → AliasStep old mid node name k n
-    → ExportSteps span mid new root before after (name ∷ []) (λ naming c d. Under named (λ s. ExportsAs s c name n d)) → ExportSteps span old new root before after (name ∷ []) (λ naming c d. Under named (λ s. ExportsOne s node c (name, means naming old k) d))
+    → ExportSteps span mid new root before after (name ∷ []) (λ numbering c d. Under named (λ s. ExportsAs s c name n d)) → ExportSteps span old new root before after (name ∷ []) (λ numbering c d. Under named (λ s. ExportsOne s node c (name, means numbering old k) d))
 exports_one span named old mid new root before after name node n k a e = record {
   grows = nodes_then_exports old mid new a.grows e.grows;
   exports = e.exports ∙ ap (λ (g : Parts). names_of g.exports ++ name ∷ []) a.grows.same;
   imported = e.imported;
   exported = e.exported;
-  goes = λ naming s same. subst (λ (x : At). ExportsAs s x.composition name x.node (composed naming new root)) (a.is naming (numbers_of root.nodes)) (e.goes naming s same);
+  goes = λ numbering s same. subst (λ (x : At). ExportsAs s x.composition name x.node (composed numbering new root)) (a.is numbering (numbers_of root.nodes)) (e.goes numbering s same);
 }
 
 pub exports_alias : (span : Span) (named : List ℕ → Option Reason) (old mid new : Parts) (root : Root) (before after : Externs) (name : List ℕ) (node n : ℕ) (o : Option ItemKind) → IfSome o (λ k. AliasStep old mid node name k n)
-    → ExportSteps span mid new root before after (name ∷ []) (λ naming c d. Under named (λ s. ExportsAs s c name n d)) → IfSome o (λ k. ExportSteps span old new root before after (name ∷ []) (λ naming c d. Under named (λ s. ExportsOne s node c (name, means naming old k) d)))
+    → ExportSteps span mid new root before after (name ∷ []) (λ numbering c d. Under named (λ s. ExportsAs s c name n d)) → IfSome o (λ k. ExportSteps span old new root before after (name ∷ []) (λ numbering c d. Under named (λ s. ExportsOne s node c (name, means numbering old k) d)))
 exports_alias span named old mid new root before after name node n None a e = tt
 exports_alias span named old mid new root before after name node n (Some k) a e = exports_one span named old mid new root before after name node n k a e
 
 -- where the name of an alias is rejected
 abbrev pub OneBroken : (List ℕ → Option Reason) → Parts → Root → Externs → ℕ → List ℕ → Span → Option (List ℕ) → Error → ItemKind → Type 0
-OneBroken named g root before node name span help e k = (naming : Naming) → Under named (λ s. ExportAsBroken s (alias_at (at (composed naming g root) node) name (means naming g k)).composition (places_in root before) name span help e)
+OneBroken named g root before node name span help e k = (numbering : Numbering) → Under named (λ s. ExportAsBroken s (alias_at (at (composed numbering g root) node) name (means numbering g k)).composition (places_in root before) name span help e)
 
 pub alias_rejected : (named : List ℕ → Option Reason) (old mid : Parts) (root : Root) (before : Externs) (node n : ℕ) (name : List ℕ) (span : Span) (help : Option (List ℕ)) (e : Error) (o : Option ItemKind) → IfSome o (λ k. AliasStep old mid node name k n)
-    → ((naming : Naming) → Under named (λ s. ExportAsBroken s (composed naming mid root) (places_in root before) name span help e)) → IfSome o (OneBroken named old root before node name span help e)
+    → ((numbering : Numbering) → Under named (λ s. ExportAsBroken s (composed numbering mid root) (places_in root before) name span help e)) → IfSome o (OneBroken named old root before node name span help e)
 alias_rejected named old mid root before node n name span help e None a breaks = tt
 alias_rejected named old mid root before node n name span help e (Some k) a breaks =
-    λ naming s same. subst (λ (x : At). ExportAsBroken s x.composition (places_in root before) name span help e) (a.is naming (numbers_of root.nodes)) (breaks naming s same)
+    λ numbering s same. subst (λ (x : At). ExportAsBroken s x.composition (places_in root before) name span help e) (a.is numbering (numbers_of root.nodes)) (breaks numbering s same)
 
 -- the node of an alias that was made exists
 pub alias_there : (old mid : Parts) (node n : ℕ) (name : List ℕ) (o : Option ItemKind) → IsSome o → IfSome o (λ k. AliasStep old mid node name k n) → GrowsNodes old mid × (n < length mid.nodes)
@@ -105,11 +105,11 @@ placed_more span old new root before after names leads h e = record {
 }
 
 pub exported_all : (span : Span) (old new : Parts) (root : Root) (before after : Externs) (names : List (List ℕ)) (leads goes : Leading) → ArePlaced old before → ExportSteps span old new root before after names leads
-    → ((naming : Naming) → leads naming (composed naming old root) (composed naming new root) → goes naming (composed naming old root) (composed naming new root)) → Exported span old new root before after goes
+    → ((numbering : Numbering) → leads numbering (composed numbering old root) (composed numbering new root) → goes numbering (composed numbering old root) (composed numbering new root)) → Exported span old new root before after goes
 exported_all span old new root before after names leads goes h e to = record {
   grows = e.grows;
   placed = placed_more span old new root before after names leads h e;
   imported = e.imported;
   exported = e.exported ∙ ap (λ (l : Named Span). exported_in before ++ l) (more_names span old.exports new.exports names e.exports);
-  goes = λ naming. to naming (e.goes naming);
+  goes = λ numbering. to numbering (e.goes numbering);
 }

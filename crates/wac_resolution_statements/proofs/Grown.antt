@@ -24,11 +24,11 @@ placed_still old new x imports exports h = record {
   exported = h.exported ∙ ap (λ (l : Named ℕ). names_of l) (sym exports);
 }
 
-each_handed : (packages : List (Key × PackageParts)) (old : Parts) (nodes : List GraphNode) (exports : Named ℕ) (ps : List HeldPackage) → AllByRecursion (IsSuppliedAs packages old) ps
+each_supplied : (packages : List (Key × PackageParts)) (old : Parts) (nodes : List GraphNode) (exports : Named ℕ) (ps : List HeldPackage) → AllByRecursion (IsSuppliedAs packages old) ps
     → AllByRecursion (IsSuppliedAs packages (record old { nodes = nodes; exports = exports })) ps
-each_handed packages old nodes exports [] h = tt
-each_handed packages old nodes exports (p ∷ ps) h = (record { there = h.0.there; contents = h.0.contents }, each_handed packages old nodes exports ps h.1)
+each_supplied packages old nodes exports [] h = tt
+each_supplied packages old nodes exports (p ∷ ps) h = (record { there = h.0.there; contents = h.0.contents }, each_supplied packages old nodes exports ps h.1)
 
 -- each package is still held as it was supplied
-pub handed_still : (packages : List (Key × PackageParts)) (old new : Parts) → new ≡ record old { nodes = new.nodes; exports = new.exports } → AllSupplied packages old → AllSupplied packages new
-handed_still packages old new same h = subst (λ (g : Parts). AllSupplied packages g) (sym same) (each_handed packages old new.nodes new.exports old.packages h)
+pub supplied_still : (packages : List (Key × PackageParts)) (old new : Parts) → new ≡ record old { nodes = new.nodes; exports = new.exports } → AllSupplied packages old → AllSupplied packages new
+supplied_still packages old new same h = subst (λ (g : Parts). AllSupplied packages g) (sym same) (each_supplied packages old new.nodes new.exports old.packages h)

@@ -1,5 +1,5 @@
 -- The names of imports: which exist, and which one a statement means.
-use Rattle.wac_resolution_statements.proofs.Common.{◌≡◌, ◌∙◌, ℕ, List, Option, Some, None, true, false, is_some, refl, sym, ap, option_map, option_and_then, slice_get, string_bytes, unwrap_or, Span, ItemKind, Meaning, of_kind, Named, look_up, entry_over, id_of, Names, Parts, entry_means, origin_at, EntriesMean, Naming, IsSound, Error, duplicate_extern_name, IsImportedAlready, imports, Places, item_id, composition_of, imported_where}
+use Rattle.wac_resolution_statements.proofs.Common.{◌≡◌, ◌∙◌, ℕ, List, Option, Some, None, true, false, is_some, refl, sym, ap, option_map, option_and_then, slice_get, string_bytes, unwrap_or, Span, ItemKind, Meaning, of_kind, Named, look_up, entry_over, id_of, Names, Parts, entry_means, origin_at, EntriesMean, Numbering, IsSound, Error, duplicate_extern_name, IsImportedAlready, imports, Places, item_id, composition_of, imported_where}
 use Rattle.wac_resolution_statements.specs.declared.externs.Externs.{Externs}
 use Rattle.wac_resolution_statements.specs.Externs.{imported_in, ArePlaced}
 use Rattle.wac_resolution_statements.proofs.Checks.{stands_too, fresh_too}
@@ -33,15 +33,15 @@ unimported_yet g x name placed sound is =
     let fresh : look_up name g.imports ≡ None = fresh_too name (imported_in x) g.imports placed.imported is in
     record {
       in_graph = fresh;
-      in_composition = λ naming declared. none_there (look_up name (imports (composition_of naming g declared))) (imported_where naming g declared name sound ∙ ap (λ (o : Option ℕ). is_some o) fresh);
+      in_composition = λ numbering declared. none_there (look_up name (imports (composition_of numbering g declared))) (imported_where numbering g declared name sound ∙ ap (λ (o : Option ℕ). is_some o) fresh);
     }
 
 pub imported_already : (g : Parts) (x : Externs) (name : List ℕ) (span : Span) (help : Option (List ℕ)) (previous : Span) (e : Error) → ArePlaced g x → IsSound g → look_up name (imported_in x) ≡ Some previous → e ≡ duplicate_extern_name sides.Import name span previous help
-    → (naming : Naming) (declared : Named ℕ) (all : Places) → all.imported ≡ imported_in x → IsImportedAlready (composition_of naming g declared) all name span help e
-imported_already g x name span help previous e placed sound is told naming declared all same =
+    → (numbering : Numbering) (declared : Named ℕ) (all : Places) → all.imported ≡ imported_in x → IsImportedAlready (composition_of numbering g declared) all name span help e
+imported_already g x name span help previous e placed sound is error_is numbering declared all same =
     let there = stands_too name (imported_in x) g.imports previous placed.imported is in
-    let node = some_there (look_up name (imports (composition_of naming g declared))) (imported_where naming g declared name sound ∙ ap (λ (o : Option ℕ). is_some o) there.1) in
-    (node.0, previous, node.1, ap (look_up name) same ∙ is, told)
+    let node = some_there (look_up name (imports (composition_of numbering g declared))) (imported_where numbering g declared name sound ∙ ap (λ (o : Option ℕ). is_some o) there.1) in
+    (node.0, previous, node.1, ap (look_up name) same ∙ is, error_is)
 
 -- ---- ids of worlds
 
@@ -54,8 +54,8 @@ world_is f (Some (entries.Func g)) m origin h law = absurd (cc)
 world_is f (Some (entries.Interface i)) m origin h law = absurd (cc)
 world_is f (Some (entries.World w)) m origin h law = parts.world_id f m origin w (law (entries.World w) refl)
 
-pub world_id_is : (g : Parts) (w : WorldId) → EntriesMean g → Names g.types (kinds.Component w) → (naming : Naming) → id_of (entry_means naming g w.0) ≡ written_world_id g.types w.0
-world_id_is g w law named naming = world_is (entry_means naming g) (slice_get g.types w.0) (entry_means naming g w.0) (naming (origin_at g w.0)) named.1 (λ e at. law naming w.0 e at)
+pub world_id_is : (g : Parts) (w : WorldId) → EntriesMean g → Names g.types (kinds.Component w) → (numbering : Numbering) → id_of (entry_means numbering g w.0) ≡ written_world_id g.types w.0
+world_id_is g w law named numbering = world_is (entry_means numbering g) (slice_get g.types w.0) (entry_means numbering g w.0) (numbering (origin_at g w.0)) named.1 (λ e at. law numbering w.0 e at)
 
 -- what is no instance and no component has no id
 pub no_id : (f : ℕ → Meaning) (k : ItemKind) → ((i : InterfaceId) → k ≡ kinds.Instance i → ⊥) → ((w : WorldId) → k ≡ kinds.Component w → ⊥) → item_id (of_kind f k) ≡ None

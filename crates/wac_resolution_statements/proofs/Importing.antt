@@ -33,11 +33,11 @@ adds_import old mid new before after x y id name span k n is number binds import
   unbound = binds.fresh;
   same = binds.grows.same ∙ ap (λ (g : Parts). record g { nodes = new.nodes }) is;
   agrees = binds.agrees;
-  is = λ naming.
-      binds.is naming
-      ∙ ap (λ (g : Parts). binding (composed naming g before) id.string n) is
-      ∙ ap (λ (c : Composition). binding c id.string n) (composition_imports old (numbers_of before.nodes) name k naming)
-      ∙ ap (binding (with_node (composed naming old before) (imported name) (means naming old k)) id.string) (number ∙ sym (next_is naming old (numbers_of before.nodes)));
+  is = λ numbering.
+      binds.is numbering
+      ∙ ap (λ (g : Parts). binding (composed numbering g before) id.string n) is
+      ∙ ap (λ (c : Composition). binding c id.string n) (composition_imports old (numbers_of before.nodes) name k numbering)
+      ∙ ap (binding (with_node (composed numbering old before) (imported name) (means numbering old k)) id.string) (number ∙ sym (next_is numbering old (numbers_of before.nodes)));
   bound = binds.places;
   imported_at = imported_at;
   exported_at = exported_at;
@@ -57,7 +57,7 @@ placed_imported old new before after x y id name span k h a = record {
 }
 
 -- packages are still held as they were supplied
-pub handed_imported : (packages : List (Key × PackageParts)) (old new : Parts) (nodes : List GraphNode) (imports : Named ℕ) → new ≡ record old { nodes = nodes; imports = imports } → AllSupplied packages old → AllSupplied packages new
-handed_imported packages old new nodes imports is h =
+pub supplied_imported : (packages : List (Key × PackageParts)) (old new : Parts) (nodes : List GraphNode) (imports : Named ℕ) → new ≡ record old { nodes = nodes; imports = imports } → AllSupplied packages old → AllSupplied packages new
+supplied_imported packages old new nodes imports is h =
     subst (AllSupplied packages) (sym is)
     (all_implies (IsSuppliedAs packages old) (IsSuppliedAs packages (record old { nodes = nodes; imports = imports })) (λ p same. record { there = same.there; contents = same.contents }) old.packages h)

@@ -1,5 +1,5 @@
 -- What a world's entry allows is what the world allows.
-use Rattle.wac_resolution_statements.proofs.Common.{◌≡◌, ◌∙◌, ℕ, List, [], ◌∷◌, ◌++◌, Option, Some, None, Bool, true, false, cond, refl, sym, ap, subst, map, reverse, flat_map, option_map, option_and_then, slice_get, IfSome, String, AllByRecursion, cons_option, option_or, bytes_eq, map-append, ItemKind, InterfaceId, WorldId, Entry, UsedType, Meaning, of_kind, EachKind, by_name, as_interface, as_world, world_imports, Named, look_up, imports_of, uses_mean, items_mean, Names, ItemsNamed, EachEntryNamed, world_imports_mean, world_imports_named, found_named, items_found, Parts, means, entry_means, origin_at, EntriesMean, Naming, used_by, uses_of_import, uses_of_world, under_id, used_under, allowed, written_id}
+use Rattle.wac_resolution_statements.proofs.Common.{◌≡◌, ◌∙◌, ℕ, List, [], ◌∷◌, ◌++◌, Option, Some, None, Bool, true, false, cond, refl, sym, ap, subst, map, reverse, flat_map, option_map, option_and_then, slice_get, IfSome, String, AllByRecursion, cons_option, option_or, bytes_eq, map-append, ItemKind, InterfaceId, WorldId, Entry, UsedType, Meaning, of_kind, EachKind, by_name, as_interface, as_world, world_imports, Named, look_up, imports_of, uses_mean, items_mean, Names, ItemsNamed, EachEntryNamed, world_imports_mean, world_imports_named, found_named, items_found, Parts, means, entry_means, origin_at, EntriesMean, Numbering, used_by, uses_of_import, uses_of_world, under_id, used_under, allowed, written_id}
 use Rattle.std.specs.declared.alloc.Global.{Global}
 use Rattle.wac_graph_types.specs.declared.kind.ItemKind.TheVariants as kinds
 use Rattle.wac_graph_types.specs.declared.kind.«Type».TheVariants as types
@@ -99,9 +99,9 @@ map_or : {X Y : Type 0} (f : X → Y) (a b : Option X) → option_map f (option_
 map_or f None b = refl
 map_or f (Some x) b = refl
 
-module _ (g : Parts) (law : EntriesMean g) (entries_named : EachEntryNamed g.types) (naming : Naming) where
+module _ (g : Parts) (law : EntriesMean g) (entries_named : EachEntryNamed g.types) (numbering : Numbering) where
   abbrev f : ℕ → Meaning
-  f = entry_means naming g
+  f = entry_means numbering g
 
   abbrev inst : InterfaceId → Meaning
   inst i = of_kind f (kinds.Instance i)
@@ -120,7 +120,7 @@ module _ (g : Parts) (law : EntriesMean g) (entries_named : EachEntryNamed g.typ
       go (Some (entries.Resource r)) is h = absurd (cc)
       go (Some (entries.Func t)) is h = absurd (cc)
       go (Some (entries.Interface i)) is h = absurd (cc)
-      go (Some (entries.World w)) is h = ap (map (λ u. u.1)) (parts.world_uses f (f n) (naming (origin_at g n)) w (law naming n (entries.World w) is)) ∙ used_each (by_name w.uses.entries)
+      go (Some (entries.World w)) is h = ap (map (λ u. u.1)) (parts.world_uses f (f n) (numbering (origin_at g n)) w (law numbering n (entries.World w) is)) ∙ used_each (by_name w.uses.entries)
 
   interface_used : (n : ℕ) → option_map sort_of (slice_get g.types n) ≡ Some sorts.Interface → used_by (f n) ≡ map inst (interfaces_in (interface_uses g.types n))
   interface_used n = go (slice_get g.types n) refl
@@ -131,7 +131,7 @@ module _ (g : Parts) (law : EntriesMean g) (entries_named : EachEntryNamed g.typ
       go (Some (entries.Defined d)) is h = absurd (cc)
       go (Some (entries.Resource r)) is h = absurd (cc)
       go (Some (entries.Func t)) is h = absurd (cc)
-      go (Some (entries.Interface i)) is h = ap (map (λ u. u.1)) (parts.interface_uses f (f n) (naming (origin_at g n)) i (law naming n (entries.Interface i) is)) ∙ used_each (by_name i.uses.entries)
+      go (Some (entries.Interface i)) is h = ap (map (λ u. u.1)) (parts.interface_uses f (f n) (numbering (origin_at g n)) i (law numbering n (entries.Interface i) is)) ∙ used_each (by_name i.uses.entries)
       go (Some (entries.World w)) is h = absurd (cc)
 
   import_used : (name : List ℕ) (k : ItemKind) → Names g.types k → uses_of_import (name, of_kind f k) ≡ map inst (import_uses g.types k)
@@ -155,7 +155,7 @@ module _ (g : Parts) (law : EntriesMean g) (entries_named : EachEntryNamed g.typ
       ∙ sym (map-append inst (import_uses g.types k.1) (flat_map (λ (e : List ℕ × ItemKind). import_uses g.types e.1) ks))
 
   imports_mean : (w : WorldId) → Names g.types (kinds.Component w) → imports_of (f w.0) ≡ items_mean f (world_imports g.types w.0)
-  imports_mean w h = world_imports_mean (λ n. naming (origin_at g n)) g.types f (law naming) w.0 h.1
+  imports_mean w h = world_imports_mean (λ n. numbering (origin_at g n)) g.types f (law numbering) w.0 h.1
 
   used_mean : (w : WorldId) → Names g.types (kinds.Component w) → uses_of_world (f w.0) ≡ map inst (used_in g.types w.0)
   used_mean w h =
@@ -165,7 +165,7 @@ module _ (g : Parts) (law : EntriesMean g) (entries_named : EachEntryNamed g.typ
       ∙ sym (map-append inst (interfaces_in (world_uses g.types w.0)) (flat_map (λ (e : List ℕ × ItemKind). import_uses g.types e.1) (world_imports g.types w.0)))
 
   one_meant : (name : List ℕ) (i : InterfaceId) → Names g.types (kinds.Instance i) → last_in under_id name (inst i ∷ []) ≡ option_map inst (last_of g.types name (i ∷ []))
-  one_meant name i h = ap (λ (o : Option (List ℕ)). look_up name (reverse (cons_option (option_map {U = List ℕ × Meaning} (λ id. (id, inst i)) o) []))) (interface_id_is g i law h naming) ∙ go (written_id g.types i.0)
+  one_meant name i h = ap (λ (o : Option (List ℕ)). look_up name (reverse (cons_option (option_map {U = List ℕ × Meaning} (λ id. (id, inst i)) o) []))) (interface_id_is g i law h numbering) ∙ go (written_id g.types i.0)
     where
       cases : (b : Bool) → cond b (Some (inst i)) None ≡ option_map inst (cond b (Some i) None)
       cases true = refl
@@ -184,14 +184,14 @@ module _ (g : Parts) (law : EntriesMean g) (entries_named : EachEntryNamed g.typ
       ∙ sym (map_or inst (last_of g.types name all) (last_of g.types name (i ∷ [])))
       ∙ ap (option_map inst) (sym (last_cons (with_id g.types) name i all))
 
-  pub allowed_means : (w : WorldId) (name : List ℕ) → Names g.types (kinds.Component w) → option_map (means naming g) (allowed_kind g.types w.0 name) ≡ allowed (f w.0) name
+  pub allowed_means : (w : WorldId) (name : List ℕ) → Names g.types (kinds.Component w) → option_map (means numbering g) (allowed_kind g.types w.0 name) ≡ allowed (f w.0) name
   allowed_means w name h =
-      map_or (means naming g) (option_map (λ i. kinds.Instance i) (last_of g.types name (used_in g.types w.0))) (look_up name (world_imports g.types w.0))
-      ∙ ap (λ (o : Option Meaning). option_or o (option_map (means naming g) (look_up name (world_imports g.types w.0)))) (through (last_of g.types name (used_in g.types w.0)))
-      ∙ ap (λ (o : Option Meaning). option_or o (option_map (means naming g) (look_up name (world_imports g.types w.0)))) (sym (last_meant name (used_in g.types w.0) (used_named g.types entries_named w.0)))
-      ∙ ap (λ (l : List Meaning). option_or (last_in under_id name l) (option_map (means naming g) (look_up name (world_imports g.types w.0)))) (sym (used_mean w h))
+      map_or (means numbering g) (option_map (λ i. kinds.Instance i) (last_of g.types name (used_in g.types w.0))) (look_up name (world_imports g.types w.0))
+      ∙ ap (λ (o : Option Meaning). option_or o (option_map (means numbering g) (look_up name (world_imports g.types w.0)))) (through (last_of g.types name (used_in g.types w.0)))
+      ∙ ap (λ (o : Option Meaning). option_or o (option_map (means numbering g) (look_up name (world_imports g.types w.0)))) (sym (last_meant name (used_in g.types w.0) (used_named g.types entries_named w.0)))
+      ∙ ap (λ (l : List Meaning). option_or (last_in under_id name l) (option_map (means numbering g) (look_up name (world_imports g.types w.0)))) (sym (used_mean w h))
       ∙ ap (option_or (used_under (f w.0) name)) (sym (items_found f (world_imports g.types w.0) name) ∙ ap (look_up name) (sym (imports_mean w h)))
     where
-      through : (o : Option InterfaceId) → option_map (means naming g) (option_map (λ i. kinds.Instance i) o) ≡ option_map inst o
+      through : (o : Option InterfaceId) → option_map (means numbering g) (option_map (λ i. kinds.Instance i) o) ≡ option_map inst o
       through None = refl
       through (Some i) = refl

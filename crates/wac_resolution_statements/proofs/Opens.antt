@@ -1,5 +1,5 @@
 -- What an instance leaves open, import by import.
-use Rattle.wac_resolution_statements.proofs.Common.{◌≡◌, ◌∙◌, ℕ, List, [], ◌∷◌, ◌++◌, Option, Some, None, Bool, true, false, cond, refl, sym, ap, subst, is_none, slice_get, ItemKind, world_imports, Named, look_up, Parts, package_of, arguments_of, HeldPackage, Error, told}
+use Rattle.wac_resolution_statements.proofs.Common.{◌≡◌, ◌∙◌, ℕ, List, [], ◌∷◌, ◌++◌, Option, Some, None, Bool, true, false, cond, refl, sym, ap, subst, is_none, slice_get, ItemKind, world_imports, Named, look_up, Parts, package_of, arguments_of, HeldPackage, Error, error_model}
 use Rattle.std.proofs.Common.{Result, Ok, Err, OnOk, IfErr}
 use Rattle.wac_resolution_errors.specs.declared.error.Error.{Error as CodeError}
 use Rattle.wac_resolution_statements.specs.Imported.{of_kind, left_open, package_imports, open_at}
@@ -35,10 +35,10 @@ pub all_open : (t : Testing) (arguments : Named ℕ) (x : List ℕ × ItemKind) 
 all_open t arguments x (Ok u) is h = open_allowed t arguments x is h
 all_open t arguments x (Err e) is h = tt
 
-pub some_open : (t : Testing) (arguments : Named ℕ) (x : List ℕ × ItemKind) (r : Result (Unit {0}) CodeError) → look_up x.0 arguments ≡ None → IfErr r (λ e. Denied t (of_kind t.graph x) None (told e))
-    → IfErr r (λ e. SomeDenied t (of_kind t.graph) nowhere (left_open arguments (x ∷ [])) (told e))
+pub some_open : (t : Testing) (arguments : Named ℕ) (x : List ℕ × ItemKind) (r : Result (Unit {0}) CodeError) → look_up x.0 arguments ≡ None → IfErr r (λ e. Denied t (of_kind t.graph x) None (error_model e))
+    → IfErr r (λ e. SomeDenied t (of_kind t.graph) nowhere (left_open arguments (x ∷ [])) (error_model e))
 some_open t arguments x (Ok u) is h = tt
-some_open t arguments x (Err e) is h = open_denied_one t arguments x (told e) is h
+some_open t arguments x (Err e) is h = open_denied_one t arguments x (error_model e) is h
 
 -- ---- instances of packages
 

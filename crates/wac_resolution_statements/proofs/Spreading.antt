@@ -1,5 +1,5 @@
 -- Exports of an instance, in order.
-use Rattle.wac_resolution_statements.proofs.Common.{◌≡◌, ◌==◌, length, suc, arith, ◌∙◌, ℕ, List, [], ◌∷◌, ◌++◌, Option, Some, None, Bool, true, false, cond, refl, sym, ap, subst, map, is_none, append-nil, append_assoc, slice_get, option_map, option_and_then, unwrap_or, IsSome, string_bytes, String, Global, AllByRecursion, bytes_eq, ItemKind, InterfaceId, Meaning, of_kind, by_name, instance_exports, interface_exports, Named, look_up, exports_of, items_mean, nothing, Parts, export_kind, means, entry_means, Naming, names_of, unexported, IsInstance}
+use Rattle.wac_resolution_statements.proofs.Common.{◌≡◌, ◌==◌, length, suc, arith, ◌∙◌, ℕ, List, [], ◌∷◌, ◌++◌, Option, Some, None, Bool, true, false, cond, refl, sym, ap, subst, map, is_none, append-nil, append_assoc, slice_get, option_map, option_and_then, unwrap_or, IsSome, string_bytes, String, Global, AllByRecursion, bytes_eq, ItemKind, InterfaceId, Meaning, of_kind, by_name, instance_exports, interface_exports, Named, look_up, exports_of, items_mean, nothing, Parts, export_kind, means, entry_means, Numbering, names_of, unexported, IsInstance}
 use Rattle.std.specs.List.{IsDistinct}
 use Rattle.std.specs.Bool.{one_answer}
 use Rattle.std.specs.Map.{keys_of}
@@ -123,12 +123,12 @@ with_meanings P exports (x ∷ xs) h = go (is_none (look_up x.0 exports)) (with_
     go true later = (let here : P x.0 ≡ x.1 = h.0 in ap (λ (m : Meaning). (x.0, m) ∷ map (item_by P) (names_of (unexported exports xs))) here ∙ ap (λ (l : Named Meaning). (x.0, x.1) ∷ l) later)
     go false later = later
 
-found_meant : (naming : Naming) (g : Parts) (node : ℕ) (i : InterfaceId) (all : Named ItemKind) → IsInstance g node i → all ≡ interface_exports g.types i.0 → (xs : Named ItemKind) → AllByRecursion (λ x. look_up x.0 all ≡ Some x.1) xs
-    → AllByRecursion (λ x. meaning_exported naming g node x.0 ≡ x.1) (items_mean (entry_means naming g) xs)
-found_meant naming g node i all h same [] f = tt
-found_meant naming g node i all h same (x ∷ xs) f = (
-  ap (λ (o : Option ItemKind). unwrap_or (option_map (means naming g) o) nothing) (export_is g node i x.0 h ∙ ap (look_up x.0) (sym same) ∙ f.0),
-  found_meant naming g node i all h same xs f.1,
+found_meant : (numbering : Numbering) (g : Parts) (node : ℕ) (i : InterfaceId) (all : Named ItemKind) → IsInstance g node i → all ≡ interface_exports g.types i.0 → (xs : Named ItemKind) → AllByRecursion (λ x. look_up x.0 all ≡ Some x.1) xs
+    → AllByRecursion (λ x. meaning_exported numbering g node x.0 ≡ x.1) (items_mean (entry_means numbering g) xs)
+found_meant numbering g node i all h same [] f = tt
+found_meant numbering g node i all h same (x ∷ xs) f = (
+  ap (λ (o : Option ItemKind). unwrap_or (option_map (means numbering g) o) nothing) (export_is g node i x.0 h ∙ ap (look_up x.0) (sym same) ∙ f.0),
+  found_meant numbering g node i all h same xs f.1,
 )
 
 map_texts : {Y : Type 0} (f : List ℕ → Y) (ys : List (String Global)) → map (λ y. f (string_bytes y)) ys ≡ map f (map string_bytes ys)
@@ -136,11 +136,11 @@ map_texts f [] = refl
 map_texts {Y} f (y ∷ ys) = ap (λ (l : List Y). f (string_bytes y) ∷ l) (map_texts f ys)
 
 -- with what they denote they are the exports that aren't exported yet
-pub open_items : (naming : Naming) (g : Parts) (node : ℕ) (i : InterfaceId) (ys : List (String Global)) → IsInstance g node i → AreUnexported g.exports (interface_exports g.types i.0) (map string_bytes ys)
-    → map (exported_item naming g node) ys ≡ unexported g.exports (exports_of (entry_means naming g i.0))
-open_items naming g node i ys h u =
-    let all : Named Meaning = items_mean (entry_means naming g) (interface_exports g.types i.0) in
-    map_texts (item_by (meaning_exported naming g node)) ys
-    ∙ ap (map (item_by (meaning_exported naming g node))) (u.are (entry_means naming g))
-    ∙ with_meanings (meaning_exported naming g node) g.exports all (found_meant naming g node i (interface_exports g.types i.0) h refl (interface_exports g.types i.0) u.found)
-    ∙ ap (unexported g.exports) (sym (h.exports naming))
+pub open_items : (numbering : Numbering) (g : Parts) (node : ℕ) (i : InterfaceId) (ys : List (String Global)) → IsInstance g node i → AreUnexported g.exports (interface_exports g.types i.0) (map string_bytes ys)
+    → map (exported_item numbering g node) ys ≡ unexported g.exports (exports_of (entry_means numbering g i.0))
+open_items numbering g node i ys h u =
+    let all : Named Meaning = items_mean (entry_means numbering g) (interface_exports g.types i.0) in
+    map_texts (item_by (meaning_exported numbering g node)) ys
+    ∙ ap (map (item_by (meaning_exported numbering g node))) (u.are (entry_means numbering g))
+    ∙ with_meanings (meaning_exported numbering g node) g.exports all (found_meant numbering g node i (interface_exports g.types i.0) h refl (interface_exports g.types i.0) u.found)
+    ∙ ap (unexported g.exports) (sym (h.exports numbering))

@@ -5,7 +5,7 @@ use Rattle.wac_graph_types.specs.declared.kind.ItemKind.{ItemKind}
 use Rattle.wac_graph_types.specs.Scope.{with_named}
 use Rattle.wac_graph.specs.Graph.{Parts}
 use Rattle.wac_graph.specs.Means.{means, declared_count}
-use Rattle.wac_graph.specs.Origin.{Naming}
+use Rattle.wac_graph.specs.Origin.{Numbering}
 use Rattle.wac_resolution_rules.specs.TypeStatements.{Defines}
 use Rattle.wac_resolution_state.specs.declared.root.Root.{Root}
 use Rattle.wac_resolution_state.specs.Root.{composed, places, Agrees}
@@ -18,9 +18,9 @@ pub record IsDefined (old new : Parts) (before after : Root) (x y : Externs) (id
   pub grows : GrowsExports old new
   pub agrees : Agrees new after
   pub placed : ArePlaced new y
-  pub defines : (naming : Naming)
-      → Defines (composed naming old before) id.string (means naming old k) (declared_count old)
-      (composed naming new after)
+  pub defines : (numbering : Numbering)
+      → Defines (composed numbering old before) id.string (means numbering old k) (declared_count old)
+      (composed numbering new after)
   pub bound : places after ≡ with_named (places before) id.string id.span
   pub imported : imported_in y ≡ imported_in x
   pub exported : exported_in y ≡ with_named (exported_in x) id.string id.span

@@ -5,7 +5,7 @@ use Rattle.wac_graph_types.specs.declared.kind.ItemKind.{ItemKind}
 use Rattle.wac_graph_types.specs.declared.rules.Reason.{Reason}
 use Rattle.wac_graph_types.specs.Scope.{Named, IsFresh}
 use Rattle.wac_graph.specs.Graph.{Parts}
-use Rattle.wac_graph.specs.Origin.{Naming}
+use Rattle.wac_graph.specs.Origin.{Numbering}
 use Rattle.wac_resolution_rules.specs.Composition.{Composition}
 use Rattle.wac_resolution_rules.specs.Find.{names_of}
 use Rattle.wac_resolution_rules.specs.Places.{more_at}
@@ -24,13 +24,13 @@ pub record GrowsExports (old new : Parts) : Type 0 where
 
 -- the name is that of no definition at root and of no export, and it may be that of an export
 pub record MayExport (named : List ℕ → Option Reason) (g : Parts) (root : Root) (name : List ℕ) : Type 0 where
-  pub undefined : (naming : Naming) → definition_bound (composed naming g root) name ≡ None
+  pub undefined : (numbering : Numbering) → definition_bound (composed numbering g root) name ≡ None
   pub new : IsFresh name g.exports
   pub passes : named name ≡ None
 
--- how one composition is taken to the next, under a naming of origins
+-- how one composition is taken to the next, under a numbering of origins
 abbrev pub Leading : Type 1
-Leading = Naming → Composition → Composition → Type 0
+Leading = Numbering → Composition → Composition → Type 0
 
 -- names, each at one place
 abbrev pub all_at : Span → List (List ℕ) → Named Span
@@ -43,7 +43,7 @@ pub record ExportSteps (span : Span) (old new : Parts) (root : Root) (before aft
   pub exports : names_of new.exports ≡ names_of old.exports ++ names
   pub imported : imported_in after ≡ imported_in before
   pub exported : exported_in after ≡ exported_in before ++ all_at span names
-  pub goes : (naming : Naming) → leads naming (composed naming old root) (composed naming new root)
+  pub goes : (numbering : Numbering) → leads numbering (composed numbering old root) (composed numbering new root)
 
 -- something was exported, each name at this place
 pub record Exported (span : Span) (old new : Parts) (root : Root) (before after : Externs) (leads : Leading) : Type
@@ -52,4 +52,4 @@ pub record Exported (span : Span) (old new : Parts) (root : Root) (before after 
   pub placed : ArePlaced new after
   pub imported : imported_in after ≡ imported_in before
   pub exported : exported_in after ≡ exported_in before ++ more_at span old.exports new.exports
-  pub goes : (naming : Naming) → leads naming (composed naming old root) (composed naming new root)
+  pub goes : (numbering : Numbering) → leads numbering (composed numbering old root) (composed numbering new root)

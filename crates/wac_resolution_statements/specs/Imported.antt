@@ -11,11 +11,11 @@ use Rattle.wac_resolution_statements.specs.Testing.{Import}
 
 -- a name, and the node that is imported or exported under it
 abbrev pub of_node : Parts → List ℕ × ℕ → Import
-of_node g x naming = (x.0, kind_at (composition_of naming g []).nodes x.1)
+of_node g x numbering = (x.0, kind_at (composition_of numbering g []).nodes x.1)
 
 -- a name, and a kind
 abbrev pub of_kind : Parts → List ℕ × ItemKind → Import
-of_kind g x naming = (x.0, means naming g x.1)
+of_kind g x numbering = (x.0, means numbering g x.1)
 
 -- those for which there is no argument
 abbrev pub left_open : Named ℕ → Named ItemKind → Named ItemKind

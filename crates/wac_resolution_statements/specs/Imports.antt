@@ -9,7 +9,7 @@ use Rattle.wac_graph_types.specs.Readings.{as_world}
 use Rattle.wac_graph_types.specs.Scope.{Named, IsFresh, with_named}
 use Rattle.wac_graph.specs.Graph.{Parts}
 use Rattle.wac_graph.specs.Means.{means}
-use Rattle.wac_graph.specs.Origin.{Naming}
+use Rattle.wac_graph.specs.Origin.{Numbering}
 use Rattle.wac_resolution_rules.specs.Composition.{imported, with_node, binding}
 use Rattle.wac_resolution_rules.specs.Nodes.{imports, next_of}
 use Rattle.wac_resolution_rules.specs.Spans.{import_span}
@@ -26,18 +26,18 @@ written_world_id es i = option_and_then (λ x. option_map string_bytes x.id) (op
 -- nothing is imported under the name: neither in the graph nor in the composition
 pub record IsUnimported (g : Parts) (name : List ℕ) : Type 0 where
   pub in_graph : IsFresh name g.imports
-  pub in_composition : (naming : Naming) (declared : Named ℕ)
-      → IsFresh name (imports (composition_of naming g declared))
+  pub in_composition : (numbering : Numbering) (declared : Named ℕ)
+      → IsFresh name (imports (composition_of numbering g declared))
 
 -- an import of this name, place and kind was added, and a new identifier was bound to it
 pub record AddsImport (old new : Parts) (before after : Root) (x y : Externs) (id : Ident) (name : List ℕ) (span : Span) (k : ItemKind) : Type 0 where
   pub unbound : IsFresh id.string (numbers_of before.nodes)
   pub same : new ≡ record old { nodes = new.nodes; imports = with_named old.imports name (length old.nodes) }
   pub agrees : Agrees new after
-  pub is : (naming : Naming)
-      → composed naming new after
-      ≡ binding (with_node (composed naming old before) (imported name) (means naming old k))
-      id.string (next_of (composed naming old before))
+  pub is : (numbering : Numbering)
+      → composed numbering new after
+      ≡ binding (with_node (composed numbering old before) (imported name) (means numbering old k))
+      id.string (next_of (composed numbering old before))
   pub bound : places after ≡ with_named (places before) id.string id.span
   pub imported_at : imported_in y ≡ with_named (imported_in x) name span
   pub exported_at : exported_in y ≡ exported_in x

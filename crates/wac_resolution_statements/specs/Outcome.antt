@@ -8,7 +8,7 @@ use Rattle.wac_ast_grammar.specs.Tree.{PackagePath}
 use Rattle.wac_graph.specs.Graph.{Parts}
 use Rattle.wac_graph.specs.Means.{declared_count}
 use Rattle.wac_graph.specs.Numbers.{numbers}
-use Rattle.wac_graph.specs.Origin.{Naming, IsOneToOne}
+use Rattle.wac_graph.specs.Origin.{Numbering, IsOneToOne}
 use Rattle.wac_resolution_errors.specs.Error.{Error}
 use Rattle.wac_resolution_state.specs.declared.root.Root.{Root}
 use Rattle.wac_resolution_state.specs.Root.{composed}
@@ -39,16 +39,16 @@ WorldUnmet t imported exported e = SomeDenied t (of_node t.graph) (λ x. look_up
     ⊎ (AllAllowed t (of_node t.graph) t.graph.imports × AllAllowed t (of_kind t.graph) (opens_of t.graph)
     × SomeUnmet t exported (of_kind t.graph) (world_exports t.graph.types t.world) e))
 
--- the path resolves to a world that allows the composition, under every naming that is one to one
+-- the path resolves to a world that allows the composition, under every numbering that is one to one
 pub record Meets (context : Context) (rules : Rules) (old new : Parts) (root : Root) (path : PackagePath) : Type 0 where
   pub grows : Expands old new
   pub supplied : AllSupplied (packages_in context) new
   pub count : declared_count new ≡ declared_count old
-  pub is : (naming : Naming) → IsOneToOne naming
-      → MeetsPath (given_by rules (context_of naming context)) (composed naming old root) path
+  pub is : (numbering : Numbering) → IsOneToOne numbering
+      → MeetsPath (given_by rules (context_of numbering context)) (composed numbering old root) path
 
 -- the error says why not
 abbrev pub Unmeets : Context → Rules → Parts → Root → PackagePath → Named Span → Named Span → Error → Type 0
-Unmeets context rules old root path imported exported e = (naming : Naming) (p : Places) → IsOneToOne naming
+Unmeets context rules old root path imported exported e = (numbering : Numbering) (p : Places) → IsOneToOne numbering
     → p.imported ≡ imported → p.exported ≡ exported
-    → TargetBroken (given_by rules (context_of naming context)) (composed naming old root) p e path
+    → TargetBroken (given_by rules (context_of numbering context)) (composed numbering old root) p e path

@@ -8,7 +8,7 @@ use Rattle.wac_graph_types.specs.Scope.{Named, look_up}
 use Rattle.wac_graph_types.specs.Shape.{items_mean, nothing}
 use Rattle.wac_graph.specs.Graph.{Parts, export_kind}
 use Rattle.wac_graph.specs.Means.{means}
-use Rattle.wac_graph.specs.Origin.{Naming}
+use Rattle.wac_graph.specs.Origin.{Numbering}
 use Rattle.wac_resolution_rules.specs.Find.{names_of}
 use Rattle.wac_resolution_rules.specs.Statements.{unexported}
 
@@ -22,9 +22,9 @@ abbrev pub EachExported : Parts → ℕ → List (List ℕ) → Type 0
 EachExported g node names = AllByRecursion (λ name. IsSome (export_kind g node name)) names
 
 -- what a node exports under a name, as it is meant
-abbrev pub meaning_exported : Naming → Parts → ℕ → List ℕ → Meaning
-meaning_exported naming g node name = unwrap_or (option_map (means naming g) (export_kind g node name)) nothing
+abbrev pub meaning_exported : Numbering → Parts → ℕ → List ℕ → Meaning
+meaning_exported numbering g node name = unwrap_or (option_map (means numbering g) (export_kind g node name)) nothing
 
 -- that name with what it denotes
-abbrev pub exported_item : Naming → Parts → ℕ → String Global → List ℕ × Meaning
-exported_item naming g node name = (string_bytes name, meaning_exported naming g node (string_bytes name))
+abbrev pub exported_item : Numbering → Parts → ℕ → String Global → List ℕ × Meaning
+exported_item numbering g node name = (string_bytes name, meaning_exported numbering g node (string_bytes name))

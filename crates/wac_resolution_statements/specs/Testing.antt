@@ -1,4 +1,4 @@
--- What imports and exports are tested with, and what is found of each, under every naming that is one to one.
+-- What imports and exports are tested with, and what is found of each, under every numbering that is one to one.
 use Rattle.std.specs.Prelude.{◌≡◌, ◌⊎◌, ℕ, List, Option, Some, None}
 use Rattle.std.specs.List.{AllByRecursion}
 use Rattle.wac_lexer.specs.Span.{Span}
@@ -11,7 +11,7 @@ use Rattle.wac_ast_base.specs.Names.{package_path_of}
 use Rattle.wac_ast_grammar.specs.Tree.{PackagePath}
 use Rattle.wac_graph.specs.Graph.{Parts}
 use Rattle.wac_graph.specs.Means.{entry_means}
-use Rattle.wac_graph.specs.Origin.{Naming, IsOneToOne}
+use Rattle.wac_graph.specs.Origin.{Numbering, IsOneToOne}
 use Rattle.wac_resolution_errors.specs.Error.{Error, import_not_in_target, missing_target_export, target_mismatch}
 use Rattle.wac_resolution_state.specs.Nodes.{composition_of}
 use Rattle.wac_resolution_rules.specs.BrokenExpressions.{ReachedAt}
@@ -39,8 +39,8 @@ testing g rules target =
 abbrev pub given_in : Testing → Context → Given
 given_in t context = given_by t.rules context
 
-abbrev pub world_in : Testing → Naming → Meaning
-world_in t naming = entry_means naming t.graph t.world
+abbrev pub world_in : Testing → Numbering → Meaning
+world_in t numbering = entry_means numbering t.graph t.world
 
 -- the error says how the first of a list that does not pass fails
 abbrev pub FirstFails : {X : Type 0} → (X → Type 0) → (X → Error → Type 0) → List X → Error → Type 0
@@ -50,11 +50,11 @@ FirstFails {X = X} Passes Failing all e = (x : X) × ReachedAt Passes all x × F
 
 -- a name, and what is imported under it
 abbrev pub Import : Type 0
-Import = Naming → List ℕ × Meaning
+Import = Numbering → List ℕ × Meaning
 
 abbrev pub Allowed : Testing → Import → Type 0
-Allowed t x = (naming : Naming) (context : Context) → IsOneToOne naming
-    → ImportAllowed (given_in t context) (world_in t naming) (x naming)
+Allowed t x = (numbering : Numbering) (context : Context) → IsOneToOne numbering
+    → ImportAllowed (given_in t context) (world_in t numbering) (x numbering)
 
 -- the error says why an import at a place is not allowed
 abbrev pub IsDenied : Given → PackagePath → Meaning → (List ℕ × Meaning) × Option Span → Error → Type 0
@@ -63,15 +63,15 @@ IsDenied s path w x e = ((allowed w x.0.0 ≡ None) × (e ≡ import_not_in_targ
     × (e ≡ target_mismatch externs.Import x.0.0 path.string r x.1))
 
 abbrev pub Denied : Testing → Import → Option Span → Error → Type 0
-Denied t x span e = (naming : Naming) (context : Context) → IsOneToOne naming
-    → IsDenied (given_in t context) t.path (world_in t naming) (x naming, span) e
+Denied t x span e = (numbering : Numbering) (context : Context) → IsOneToOne numbering
+    → IsDenied (given_in t context) t.path (world_in t numbering) (x numbering, span) e
 
 -- ---- exports
 
 -- a name, and what is exported under it
 abbrev pub Met : Testing → Import → Type 0
-Met t x = (naming : Naming) (context : Context) (declared : Named ℕ) → IsOneToOne naming
-    → ExportMet (given_in t context) (composition_of naming t.graph declared) (x naming)
+Met t x = (numbering : Numbering) (context : Context) (declared : Named ℕ) → IsOneToOne numbering
+    → ExportMet (given_in t context) (composition_of numbering t.graph declared) (x numbering)
 
 -- the error says how an export of the target is not met
 abbrev pub IsUnmet : Given → Composition → Named Span → PackagePath → List ℕ × Meaning → Error → Type 0
@@ -82,8 +82,8 @@ IsUnmet s c places path x e =
     × StandsFor places x.0 span × (e ≡ target_mismatch externs.Export x.0 path.string r (Some span)))
 
 abbrev pub Unmet : Testing → Named Span → Import → Error → Type 0
-Unmet t places x e = (naming : Naming) (context : Context) (declared : Named ℕ) → IsOneToOne naming
-    → IsUnmet (given_in t context) (composition_of naming t.graph declared) places t.path (x naming) e
+Unmet t places x e = (numbering : Numbering) (context : Context) (declared : Named ℕ) → IsOneToOne numbering
+    → IsUnmet (given_in t context) (composition_of numbering t.graph declared) places t.path (x numbering) e
 
 -- ---- all of a list
 

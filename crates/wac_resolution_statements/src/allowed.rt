@@ -2,7 +2,7 @@
 ghost use Rattle.std.specs.Prelude.{◌≡◌, IfSome, option_map};
 ghost use Rattle.wac_graph_types.specs.Table.{Names};
 ghost use Rattle.wac_graph.specs.Means.{means, entry_means};
-ghost use Rattle.wac_graph.specs.Origin.{Naming};
+ghost use Rattle.wac_graph.specs.Origin.{Numbering};
 ghost use Rattle.wac_resolution_rules.specs.Target.{allowed as allowed_by};
 ghost use Rattle.wac_resolution_statements.specs.Used.{allowed_kind};
 
@@ -23,9 +23,9 @@ fn written(types: &Types, world: WorldId, name: &str) -> Option<ItemKind>
 /// What a world allows to be imported under a name.
 pub(crate) fn allowed(state: &State, world: WorldId, name: &str) -> Option<ItemKind>
     requires { Names state.now.graph.types (ItemKind.Component world) }
-    ensures means { (naming : Naming)
-        → option_map (means naming state.now.graph) result
-        ≡ allowed_by (entry_means naming state.now.graph world.0) name.now }
+    ensures means { (numbering : Numbering)
+        → option_map (means numbering state.now.graph) result
+        ≡ allowed_by (entry_means numbering state.now.graph world.0) name.now }
     ensures named { IfSome result (Names state.now.graph.types) }
 {
     let types = state.graph.types();

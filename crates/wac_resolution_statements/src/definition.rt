@@ -3,7 +3,7 @@ ghost use Rattle.std.specs.Prelude.{◌≡◌, ℕ, OnOk};
 ghost use Rattle.wac_graph_types.specs.Scope.{Named, IsFresh};
 ghost use Rattle.wac_graph_types.specs.Table.{Names as NamesEntry};
 ghost use Rattle.wac_ast_base.specs.Names.{ident_of};
-ghost use Rattle.wac_graph.specs.Origin.{Naming};
+ghost use Rattle.wac_graph.specs.Origin.{Numbering};
 ghost use Rattle.wac_resolution_rules.specs.BrokenWorlds.{IsExported, DefinitionBroken};
 ghost use Rattle.wac_resolution_rules.specs.Errors.{ErrorSays};
 ghost use Rattle.wac_resolution_rules.specs.Places.{Places};
@@ -20,13 +20,13 @@ use wac_resolution_errors::Error;
 use wac_resolution_state::{Root, State};
 
 /// Rejects an identifier that is exported already.
-#[tactic(auto, using(wac_resolution_state::proofs::Scopes::memory_told))]
+#[tactic(auto, using(wac_resolution_state::proofs::Scopes::memory_model))]
 fn check_unexported(state: &State, externs: &Externs, id: &Ident<'_>) -> Result<(), Error>
     requires { ArePlaced state.now.graph externs.now }
     ensures ok { OnOk result (IsFresh id.now.string.now state.now.graph.exports) }
-    ensures err { ErrorSays result (λ e. (naming : Naming) (declared : Named ℕ) (all : Places)
+    ensures err { ErrorSays result (λ e. (numbering : Numbering) (declared : Named ℕ) (all : Places)
         → all.exported ≡ exported_in externs.now
-        → IsExported (composition_of naming state.now.graph declared) all (ident_of id.now) e) }
+        → IsExported (composition_of numbering state.now.graph declared) all (ident_of id.now) e) }
 {
     match find(&externs.exported, id.string) {
         Some(export) => Err(Error::DeclarationConflict {
@@ -51,8 +51,8 @@ pub fn define<'a>(
     requires kind { NamesEntry state.old.graph.types kind }
     ensures ok { OnOk result (IsDefined state.old.graph state.new.graph root.old root.new externs.old externs.new
         (ident_of id.now) kind) }
-    ensures err { ErrorSays result (λ e. (naming : Naming)
-        → DefinitionBroken (composed naming state.old.graph root.old)
+    ensures err { ErrorSays result (λ e. (numbering : Numbering)
+        → DefinitionBroken (composed numbering state.old.graph root.old)
         (places_in root.old externs.old) (ident_of id.now) e) }
 {
     check_unexported(state, externs, id)?;

@@ -2,7 +2,7 @@
 ghost use Rattle.std.specs.Prelude.{◌≡◌, ◌<◌, [], ◌∷◌, OnOk, IfSome, IsSome, length};
 ghost use Rattle.wac_graph.specs.Graph.{export_kind};
 ghost use Rattle.wac_graph.specs.Means.{means};
-ghost use Rattle.wac_graph.specs.Origin.{Naming};
+ghost use Rattle.wac_graph.specs.Origin.{Numbering};
 ghost use Rattle.wac_resolution_rules.specs.BrokenStatements.{ExportAsBroken};
 ghost use Rattle.wac_resolution_rules.specs.Errors.{ErrorSays};
 ghost use Rattle.wac_resolution_rules.specs.Expressions.{at, alias_at};
@@ -31,10 +31,10 @@ pub fn export_as<R: Rules>(
     requires there { node.0 < length state.old.graph.nodes }
     ensures ok { OnOk result (ExportSteps name.now.span state.old.graph state.new.graph scope.now.root.now externs.old
         externs.new (name.now.text.now ∷ [])
-        (λ naming c d. Under (R.named scope.now.rules.now) (λ s. ExportsAs s c name.now.text.now node.0 d))) }
-    ensures err { ErrorSays result (λ e. (naming : Naming)
+        (λ numbering c d. Under (R.named scope.now.rules.now) (λ s. ExportsAs s c name.now.text.now node.0 d))) }
+    ensures err { ErrorSays result (λ e. (numbering : Numbering)
         → Under (R.named scope.now.rules.now)
-        (λ s. ExportAsBroken s (composed naming state.old.graph scope.now.root.now)
+        (λ s. ExportAsBroken s (composed numbering state.old.graph scope.now.root.now)
         (places_in scope.now.root.now externs.old) name.now.text.now name.now.span (help_of name.now) e)) }
 {
     check_export(state, scope, externs, name)?;
@@ -57,12 +57,12 @@ pub fn export_alias<R: Rules>(
     ensures ok { OnOk result (IfSome (export_kind state.old.graph node.0 name.now.text.now)
         (λ k. ExportSteps name.now.span state.old.graph state.new.graph scope.now.root.now externs.old externs.new
         (name.now.text.now ∷ [])
-        (λ naming c d. Under (R.named scope.now.rules.now)
-        (λ s. ExportsOne s node.0 c (name.now.text.now, means naming state.old.graph k) d)))) }
+        (λ numbering c d. Under (R.named scope.now.rules.now)
+        (λ s. ExportsOne s node.0 c (name.now.text.now, means numbering state.old.graph k) d)))) }
     ensures err { ErrorSays result (λ e. IfSome (export_kind state.old.graph node.0 name.now.text.now)
-        (λ k. (naming : Naming) → Under (R.named scope.now.rules.now)
-        (λ s. ExportAsBroken s (alias_at (at (composed naming state.old.graph scope.now.root.now) node.0)
-        name.now.text.now (means naming state.old.graph k)).composition (places_in scope.now.root.now externs.old)
+        (λ k. (numbering : Numbering) → Under (R.named scope.now.rules.now)
+        (λ s. ExportAsBroken s (alias_at (at (composed numbering state.old.graph scope.now.root.now) node.0)
+        name.now.text.now (means numbering state.old.graph k)).composition (places_in scope.now.root.now externs.old)
         name.now.text.now name.now.span (help_of name.now) e))) }
 {
     let alias = alias(state, node, name.text)?;

@@ -1,7 +1,7 @@
 //! Tests of imports.
 ghost use Rattle.std.specs.Prelude.{◌≡◌, ℕ, OnOk};
 ghost use Rattle.wac_graph_types.specs.Scope.{Named, IsFresh};
-ghost use Rattle.wac_graph.specs.Origin.{Naming};
+ghost use Rattle.wac_graph.specs.Origin.{Numbering};
 ghost use Rattle.wac_resolution_rules.specs.BrokenStatements.{IsImportedAlready};
 ghost use Rattle.wac_resolution_rules.specs.Errors.{ErrorSays};
 ghost use Rattle.wac_resolution_rules.specs.Places.{Places};
@@ -16,7 +16,7 @@ use wac_resolution_errors::Error;
 use wac_resolution_state::State;
 
 /// Rejects a name that is imported already.
-#[tactic(auto, using(wac_resolution_state::proofs::Scopes::memory_told))]
+#[tactic(auto, using(wac_resolution_state::proofs::Scopes::memory_model))]
 pub(crate) fn check_unimported(
     state: &State,
     externs: &Externs,
@@ -24,9 +24,9 @@ pub(crate) fn check_unimported(
 ) -> Result<(), Error>
     requires { ArePlaced state.now.graph externs.now }
     ensures ok { OnOk result (IsUnimported state.now.graph name.now.text.now) }
-    ensures err { ErrorSays result (λ e. (naming : Naming) (declared : Named ℕ) (all : Places)
+    ensures err { ErrorSays result (λ e. (numbering : Numbering) (declared : Named ℕ) (all : Places)
         → all.imported ≡ imported_in externs.now
-        → IsImportedAlready (composition_of naming state.now.graph declared) all name.now.text.now name.now.span
+        → IsImportedAlready (composition_of numbering state.now.graph declared) all name.now.text.now name.now.span
         (help_of name.now) e) }
 {
     // Its contract says that the graph is sound.

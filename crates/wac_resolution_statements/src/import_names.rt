@@ -4,7 +4,7 @@ ghost use Rattle.wac_graph_types.specs.Table.{Names};
 ghost use Rattle.wac_ast_base.specs.Names.{ident_of};
 ghost use Rattle.wac_ast_worlds.specs.Worlds.{import_type_of, import_statement_of};
 ghost use Rattle.wac_graph.specs.Means.{means};
-ghost use Rattle.wac_graph.specs.Origin.{Naming};
+ghost use Rattle.wac_graph.specs.Origin.{Numbering};
 ghost use Rattle.wac_resolution_rules.specs.BrokenBodies.{help_unless};
 ghost use Rattle.wac_resolution_rules.specs.Spans as spans;
 ghost use Rattle.wac_resolution_rules.specs.Statements as rules;
@@ -48,7 +48,8 @@ fn world_id(state: &State, world: WorldId) -> Option<&str>
 /// The id of an instance or a component.
 fn item_id(state: &State, kind: ItemKind) -> Option<&str>
     requires { Names state.now.graph.types kind }
-    ensures { (naming : Naming) → option_map (λ s. s.now) result ≡ rules.item_id (means naming state.now.graph kind) }
+    ensures { (numbering : Numbering) → option_map (λ s. s.now) result
+        ≡ rules.item_id (means numbering state.now.graph kind) }
 {
     // Its contract says that the table is sound, and what its entries mean.
     let _types = state.graph.types();
@@ -62,7 +63,8 @@ fn item_id(state: &State, kind: ItemKind) -> Option<&str>
 /// The name of an import by an identifier: the id of what that denotes, else the import's own identifier.
 fn named_by_id<'x>(state: &'x State, kind: ItemKind, own: &'x str) -> &'x str
     requires { Names state.now.graph.types kind }
-    ensures { (naming : Naming) → result.now ≡ unwrap_or (rules.item_id (means naming state.now.graph kind)) own.now }
+    ensures { (numbering : Numbering)
+        → result.now ≡ unwrap_or (rules.item_id (means numbering state.now.graph kind)) own.now }
 {
     match item_id(state, kind) {
         Some(id) => id,
@@ -77,9 +79,9 @@ fn unnamed_import<'x>(
     kind: ItemKind,
 ) -> &'x str
     requires { Names state.now.graph.types kind }
-    ensures { (naming : Naming)
+    ensures { (numbering : Numbering)
         → result.now ≡ rules.unnamed_import (ident_of statement.now.id) (import_type_of statement.now.ty)
-        (means naming state.now.graph kind) }
+        (means numbering state.now.graph kind) }
 {
     match &statement.ty {
         ImportType::Package(path) => path.string,
@@ -95,8 +97,8 @@ fn name_imported<'x>(
     kind: ItemKind,
 ) -> &'x str
     requires { Names state.now.graph.types kind }
-    ensures { (naming : Naming)
-        → result.now ≡ rules.name_imported (import_statement_of statement.now) (means naming state.now.graph kind) }
+    ensures { (numbering : Numbering)
+        → result.now ≡ rules.name_imported (import_statement_of statement.now) (means numbering state.now.graph kind) }
 {
     match &statement.name {
         Some(name) => name.as_str(),
@@ -111,9 +113,9 @@ pub fn import_name(
     kind: ItemKind,
 ) -> Result<String, AllocError>
     requires { Names state.now.graph.types kind }
-    ensures { IfOk result (λ s. (naming : Naming)
+    ensures { IfOk result (λ s. (numbering : Numbering)
         → string_bytes s ≡ rules.name_imported (import_statement_of statement.now)
-        (means naming state.now.graph kind)) }
+        (means numbering state.now.graph kind)) }
 {
     String::from_str(state.alloc, name_imported(statement, state, kind))
 }

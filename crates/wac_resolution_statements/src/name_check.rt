@@ -2,7 +2,7 @@
 ghost use Rattle.std.specs.Prelude.{◌≡◌, ℕ, None, OnOk, IfSome, option_map};
 ghost use Rattle.wac_graph_types.specs.Scope.{Named, IsFresh, StandsFor};
 ghost use Rattle.wac_graph.specs.Means.{means};
-ghost use Rattle.wac_graph.specs.Origin.{Naming};
+ghost use Rattle.wac_graph.specs.Origin.{Numbering};
 ghost use Rattle.wac_resolution_rules.specs.BrokenStatements.{IsExportConflict, IsExportedAlready, IsInvalidName, ExportAsBroken};
 ghost use Rattle.wac_resolution_rules.specs.Errors.{ErrorSays};
 ghost use Rattle.wac_resolution_rules.specs.Places.{Places};
@@ -24,9 +24,9 @@ use wac_resolution_state::{Root, Scope, State};
 /// The kind of the definition to which a name is bound at root, and where.
 fn definition(state: &State, root: &Root<'_>, name: &str) -> Option<(ItemKind, SourceSpan)>
     requires { Agrees state.now.graph root.now }
-    ensures kind { (naming : Naming)
-        → option_map (λ d. means naming state.now.graph d.0) result
-        ≡ definition_bound (composed naming state.now.graph root.now) name.now }
+    ensures kind { (numbering : Numbering)
+        → option_map (λ d. means numbering state.now.graph d.0) result
+        ≡ definition_bound (composed numbering state.now.graph root.now) name.now }
     ensures place { IfSome result (λ d. StandsFor (places root.now) name.now d.1) }
 {
     let node = root.nodes.find(name)?;
@@ -38,13 +38,13 @@ fn definition(state: &State, root: &Root<'_>, name: &str) -> Option<(ItemKind, S
 }
 
 /// Rejects a name that is bound at root to a definition.
-#[tactic(auto, using(wac_resolution_state::proofs::Scopes::memory_told))]
+#[tactic(auto, using(wac_resolution_state::proofs::Scopes::memory_model))]
 fn check_undefined(state: &State, root: &Root<'_>, name: &NewName<'_>) -> Result<(), Error>
     requires { Agrees state.now.graph root.now }
-    ensures ok { OnOk result ((naming : Naming)
-        → definition_bound (composed naming state.now.graph root.now) name.now.text.now ≡ None) }
-    ensures err { ErrorSays result (λ e. (naming : Naming) (all : Places) → all.bound ≡ places root.now
-        → IsExportConflict (composed naming state.now.graph root.now) all name.now.text.now name.now.span
+    ensures ok { OnOk result ((numbering : Numbering)
+        → definition_bound (composed numbering state.now.graph root.now) name.now.text.now ≡ None) }
+    ensures err { ErrorSays result (λ e. (numbering : Numbering) (all : Places) → all.bound ≡ places root.now
+        → IsExportConflict (composed numbering state.now.graph root.now) all name.now.text.now name.now.span
         (help_of name.now) e) }
 {
     match definition(state, root, name.text) {
@@ -60,13 +60,13 @@ fn check_undefined(state: &State, root: &Root<'_>, name: &NewName<'_>) -> Result
 }
 
 /// Rejects a name that is exported already.
-#[tactic(auto, using(wac_resolution_state::proofs::Scopes::memory_told))]
+#[tactic(auto, using(wac_resolution_state::proofs::Scopes::memory_model))]
 fn check_unexported(state: &State, externs: &Externs, name: &NewName<'_>) -> Result<(), Error>
     requires { ArePlaced state.now.graph externs.now }
     ensures ok { OnOk result (IsFresh name.now.text.now state.now.graph.exports) }
-    ensures err { ErrorSays result (λ e. (naming : Naming) (declared : Named ℕ) (all : Places)
+    ensures err { ErrorSays result (λ e. (numbering : Numbering) (declared : Named ℕ) (all : Places)
         → all.exported ≡ exported_in externs.now
-        → IsExportedAlready (composition_of naming state.now.graph declared) all name.now.text.now name.now.span
+        → IsExportedAlready (composition_of numbering state.now.graph declared) all name.now.text.now name.now.span
         (help_of name.now) e) }
 {
     match find(&externs.exported, name.text) {
@@ -82,7 +82,7 @@ fn check_unexported(state: &State, externs: &Externs, name: &NewName<'_>) -> Res
 }
 
 /// Rejects a name that no import or export may have.
-#[tactic(auto, using(wac_resolution_state::proofs::Scopes::memory_told))]
+#[tactic(auto, using(wac_resolution_state::proofs::Scopes::memory_model))]
 pub fn check_name<R: Rules>(
     alloc: Global,
     rules: &R,
@@ -115,9 +115,9 @@ pub(crate) fn check_export<R: Rules>(
     requires placed { ArePlaced state.now.graph externs.now }
     ensures ok { OnOk result (MayExport (R.named scope.now.rules.now) state.now.graph scope.now.root.now
         name.now.text.now) }
-    ensures err { ErrorSays result (λ e. (naming : Naming)
+    ensures err { ErrorSays result (λ e. (numbering : Numbering)
         → Under (R.named scope.now.rules.now)
-        (λ s. ExportAsBroken s (composed naming state.now.graph scope.now.root.now)
+        (λ s. ExportAsBroken s (composed numbering state.now.graph scope.now.root.now)
         (places_in scope.now.root.now externs.now) name.now.text.now name.now.span (help_of name.now) e)) }
 {
     check_undefined(state, scope.root, name)?;

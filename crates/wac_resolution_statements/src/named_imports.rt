@@ -4,7 +4,7 @@ ghost use Rattle.wac_graph_types.specs.Scope.{IsFresh};
 ghost use Rattle.wac_graph_types.specs.Table.{Names};
 ghost use Rattle.wac_ast_base.specs.Names.{ident_of};
 ghost use Rattle.wac_ast_worlds.specs.Worlds.{import_statement_of};
-ghost use Rattle.wac_graph.specs.Origin.{Naming};
+ghost use Rattle.wac_graph.specs.Origin.{Numbering};
 ghost use Rattle.wac_resolution_rules.specs.BrokenStatements.{ImportNameBroken};
 ghost use Rattle.wac_resolution_rules.specs.BrokenWorlds.{IsBound};
 ghost use Rattle.wac_resolution_rules.specs.Errors.{ErrorSays};
@@ -46,9 +46,9 @@ fn add_import<'a>(
     requires kind { Names state.old.graph.types import.now.kind }
     ensures ok { OnOk result (AddsImport state.old.graph state.new.graph root.old root.new externs.old externs.new
         (ident_of import.now.statement.now.id) name.now.text.now name.now.span import.now.kind) }
-    ensures err { ErrorSays result (λ e. (naming : Naming) (all : Places)
+    ensures err { ErrorSays result (λ e. (numbering : Numbering) (all : Places)
         → all.bound ≡ places root.old
-        → IsBound (composed naming state.old.graph root.old) all (ident_of import.now.statement.now.id) e) }
+        → IsBound (composed numbering state.old.graph root.old) all (ident_of import.now.statement.now.id) e) }
 {
     let node = state.graph.add_import(name.text, import.kind)?;
     // Its contract says that the graph is sound.
@@ -71,9 +71,9 @@ pub fn import_as<'a, R: Rules>(
     requires kind { Names state.old.graph.types import.now.kind }
     ensures ok { OnOk result (ImportsAs (R.named rules.now) state.old.graph state.new.graph root.old root.new
         externs.old externs.new (import_statement_of import.now.statement.now) import.now.text.now import.now.kind) }
-    ensures err { ErrorSays result (λ e. (naming : Naming)
+    ensures err { ErrorSays result (λ e. (numbering : Numbering)
         → Under (R.named rules.now)
-        (λ s. ImportNameBroken s (composed naming state.old.graph root.old) (places_in root.old externs.old) e
+        (λ s. ImportNameBroken s (composed numbering state.old.graph root.old) (places_in root.old externs.old) e
         (import_statement_of import.now.statement.now) import.now.text.now)) }
 {
     let name = new_name(import.statement, import.text);

@@ -4,7 +4,7 @@ ghost use Rattle.wac_ast_grammar.specs.Tree.{Expr, ExportOptions as Options};
 ghost use Rattle.wac_graph_types.specs.Scope.{Named};
 ghost use Rattle.wac_ast_base.specs.Names.{extern_name_of};
 ghost use Rattle.wac_ast_grammar.specs.Spans.{extern_name_span};
-ghost use Rattle.wac_graph.specs.Origin.{Naming};
+ghost use Rattle.wac_graph.specs.Origin.{Numbering};
 ghost use Rattle.wac_resolution_rules.specs.BrokenStatements.{IsUnnamed, ExportOptionsBroken};
 ghost use Rattle.wac_resolution_rules.specs.Errors.{ErrorSays};
 ghost use Rattle.wac_resolution_rules.specs.Expressions.{at};
@@ -28,8 +28,8 @@ use wac_resolution_state::{Scope, State, instance_id, own_name};
 /// The name under which a node is exported without `as`: the id of its instance, else its own name.
 fn unnamed(state: &State, node: NodeId) -> Option<&str>
     requires { node.0 < length state.now.graph.nodes }
-    ensures { (naming : Naming) (declared : Named ℕ)
-        → option_and_then unnamed_export (node_at (composition_of naming state.now.graph declared) node.0)
+    ensures { (numbering : Numbering) (declared : Named ℕ)
+        → option_and_then unnamed_export (node_at (composition_of numbering state.now.graph declared) node.0)
         ≡ option_map (λ s. s.now) result }
 {
     match instance_id(state, node) {
@@ -39,14 +39,14 @@ fn unnamed(state: &State, node: NodeId) -> Option<&str>
 }
 
 /// The name under which a node is exported without `as`, copied.
-#[tactic(auto, using(wac_resolution_state::proofs::Scopes::memory_told))]
+#[tactic(auto, using(wac_resolution_state::proofs::Scopes::memory_model))]
 fn unnamed_name(state: &State, node: NodeId, span: SourceSpan) -> Result<String, Error>
     requires { node.0 < length state.now.graph.nodes }
-    ensures ok { IfOk result (λ s. (naming : Naming) (declared : Named ℕ)
-        → option_and_then unnamed_export (node_at (composition_of naming state.now.graph declared) node.0)
+    ensures ok { IfOk result (λ s. (numbering : Numbering) (declared : Named ℕ)
+        → option_and_then unnamed_export (node_at (composition_of numbering state.now.graph declared) node.0)
         ≡ Some (string_bytes s)) }
-    ensures err { ErrorSays result (λ e. (naming : Naming) (declared : Named ℕ)
-        → IsUnnamed (at (composition_of naming state.now.graph declared) node.0) span e) }
+    ensures err { ErrorSays result (λ e. (numbering : Numbering) (declared : Named ℕ)
+        → IsUnnamed (at (composition_of numbering state.now.graph declared) node.0) span e) }
 {
     match unnamed(state, node) {
         Some(name) => Ok(String::from_str(state.alloc, name)?),
@@ -66,10 +66,10 @@ pub fn export_unnamed<R: Rules>(
     requires placed { ArePlaced state.old.graph externs.old }
     requires there { node.0 < length state.old.graph.nodes }
     ensures ok { OnOk result (Exported span state.old.graph state.new.graph scope.now.root.now externs.old externs.new
-        (λ naming c d. Under (R.named scope.now.rules.now) (λ s. ExportsBy s (at c node.0) Options.none d))) }
-    ensures err { ErrorSays result (λ e. (naming : Naming) (x : Expr) → expr_span x ≡ span
+        (λ numbering c d. Under (R.named scope.now.rules.now) (λ s. ExportsBy s (at c node.0) Options.none d))) }
+    ensures err { ErrorSays result (λ e. (numbering : Numbering) (x : Expr) → expr_span x ≡ span
         → Under (R.named scope.now.rules.now)
-        (λ s. ExportOptionsBroken s (at (composed naming state.old.graph scope.now.root.now) node.0)
+        (λ s. ExportOptionsBroken s (at (composed numbering state.old.graph scope.now.root.now) node.0)
         (places_in scope.now.root.now externs.old) e x Options.none)) }
 {
     let text = unnamed_name(state, node, span)?;
@@ -95,11 +95,11 @@ pub fn export_renamed<R: Rules>(
     requires there { node.0 < length state.old.graph.nodes }
     ensures ok { OnOk result (Exported (extern_name_span (extern_name_of name.now)) state.old.graph state.new.graph
         scope.now.root.now externs.old externs.new
-        (λ naming c d. Under (R.named scope.now.rules.now)
+        (λ numbering c d. Under (R.named scope.now.rules.now)
         (λ s. ExportsBy s (at c node.0) (Options.rename (extern_name_of name.now)) d))) }
-    ensures err { ErrorSays result (λ e. (naming : Naming) (x : Expr)
+    ensures err { ErrorSays result (λ e. (numbering : Numbering) (x : Expr)
         → Under (R.named scope.now.rules.now)
-        (λ s. ExportOptionsBroken s (at (composed naming state.old.graph scope.now.root.now) node.0)
+        (λ s. ExportOptionsBroken s (at (composed numbering state.old.graph scope.now.root.now) node.0)
         (places_in scope.now.root.now externs.old) e x (Options.rename (extern_name_of name.now)))) }
 {
     let new_name = NewName {

@@ -4,7 +4,7 @@ ghost use Rattle.wac_ast_grammar.specs.Tree.{Expr, ExportOptions as Options};
 ghost use Rattle.wac_graph_types.specs.Names.{by_name};
 ghost use Rattle.wac_graph_types.specs.Readings.{interface_exports};
 ghost use Rattle.wac_graph_types.specs.Steps.{Steps, Fails};
-ghost use Rattle.wac_graph.specs.Origin.{Naming};
+ghost use Rattle.wac_graph.specs.Origin.{Numbering};
 ghost use Rattle.wac_resolution_rules.specs.BrokenStatements.{ExportOneBroken, ExportOptionsBroken};
 ghost use Rattle.wac_resolution_rules.specs.Errors.{ErrorSays};
 ghost use Rattle.wac_resolution_rules.specs.Expressions.{at};
@@ -79,15 +79,15 @@ fn export_each<R: Rules>(
     requires exported { EachExported state.old.graph spread.now.node.0 (map string_bytes names.now) }
     ensures ok { OnOk result (ExportSteps spread.now.dots state.old.graph state.new.graph scope.now.root.now externs.old
         externs.new (map string_bytes names.now)
-        (λ naming c d. Under (R.named scope.now.rules.now)
+        (λ numbering c d. Under (R.named scope.now.rules.now)
         (λ s. Steps (ExportsOne s spread.now.node.0) c
-        (map (exported_item naming state.old.graph spread.now.node.0) names.now) d))) }
-    ensures err { ErrorSays result (λ e. (naming : Naming)
+        (map (exported_item numbering state.old.graph spread.now.node.0) names.now) d))) }
+    ensures err { ErrorSays result (λ e. (numbering : Numbering)
         → Under (R.named scope.now.rules.now)
         (λ s. Fails (ExportsOne s spread.now.node.0)
         (ExportOneBroken s (places_in scope.now.root.now externs.old) spread.now.dots e spread.now.node.0)
-        (composed naming state.old.graph scope.now.root.now)
-        (map (exported_item naming state.old.graph spread.now.node.0) names.now))) }
+        (composed numbering state.old.graph scope.now.root.now)
+        (map (exported_item numbering state.old.graph spread.now.node.0) names.now))) }
 {
     for text in names {
         let name = NewName {
@@ -112,11 +112,11 @@ pub fn export_spread<R: Rules>(
     requires placed { ArePlaced state.old.graph externs.old }
     requires there { exported.now.node.0 < length state.old.graph.nodes }
     ensures ok { OnOk result (Exported dots state.old.graph state.new.graph scope.now.root.now externs.old externs.new
-        (λ naming c d. Under (R.named scope.now.rules.now)
+        (λ numbering c d. Under (R.named scope.now.rules.now)
         (λ s. ExportsBy s (at c exported.now.node.0) (Options.spread dots) d))) }
-    ensures err { ErrorSays result (λ e. (naming : Naming) (x : Expr) → expr_span x ≡ exported.now.span
+    ensures err { ErrorSays result (λ e. (numbering : Numbering) (x : Expr) → expr_span x ≡ exported.now.span
         → Under (R.named scope.now.rules.now)
-        (λ s. ExportOptionsBroken s (at (composed naming state.old.graph scope.now.root.now) exported.now.node.0)
+        (λ s. ExportOptionsBroken s (at (composed numbering state.old.graph scope.now.root.now) exported.now.node.0)
         (places_in scope.now.root.now externs.old) e x (Options.spread dots))) }
 {
     let interface = instance(

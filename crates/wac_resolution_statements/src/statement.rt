@@ -2,7 +2,7 @@
 ghost use Rattle.std.specs.Prelude.{◌≡◌, ◌<◌, OnOk, length};
 ghost use Rattle.wac_ast_grammar.specs.Tree.{Expr};
 ghost use Rattle.wac_ast_statements.specs.Statements.{export_options_of};
-ghost use Rattle.wac_graph.specs.Origin.{Naming};
+ghost use Rattle.wac_graph.specs.Origin.{Numbering};
 ghost use Rattle.wac_resolution_rules.specs.BrokenStatements.{ExportOptionsBroken};
 ghost use Rattle.wac_resolution_rules.specs.Errors.{ErrorSays};
 ghost use Rattle.wac_resolution_rules.specs.Expressions.{at};
@@ -34,11 +34,11 @@ pub fn export_node<R: Rules>(
     requires there { exported.now.node.0 < length state.old.graph.nodes }
     ensures ok { OnOk result ((x : Expr) → expr_span x ≡ exported.now.span
         → Exported (options_span x (export_options_of options.now)) state.old.graph state.new.graph scope.now.root.now
-        externs.old externs.new (λ naming c d. Under (R.named scope.now.rules.now)
+        externs.old externs.new (λ numbering c d. Under (R.named scope.now.rules.now)
         (λ s. ExportsBy s (at c exported.now.node.0) (export_options_of options.now) d))) }
-    ensures err { ErrorSays result (λ e. (naming : Naming) (x : Expr) → expr_span x ≡ exported.now.span
+    ensures err { ErrorSays result (λ e. (numbering : Numbering) (x : Expr) → expr_span x ≡ exported.now.span
         → Under (R.named scope.now.rules.now)
-        (λ s. ExportOptionsBroken s (at (composed naming state.old.graph scope.now.root.now) exported.now.node.0)
+        (λ s. ExportOptionsBroken s (at (composed numbering state.old.graph scope.now.root.now) exported.now.node.0)
         (places_in scope.now.root.now externs.old) e x (export_options_of options.now))) }
 {
     match options {

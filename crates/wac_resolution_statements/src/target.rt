@@ -2,7 +2,7 @@
 ghost use Rattle.wac_graph_types.specs.Rules.{Answers};
 ghost use Rattle.wac_graph_types.specs.Table.{Names};
 ghost use Rattle.wac_graph.specs.Means.{means};
-ghost use Rattle.wac_graph.specs.Origin.{Naming, IsOneToOne};
+ghost use Rattle.wac_graph.specs.Origin.{Numbering, IsOneToOne};
 
 use wac_ast_base::PackagePath;
 use wac_graph::{ItemKind, Reason, Rules, WorldId};
@@ -35,8 +35,8 @@ pub(crate) fn passes<R: Rules>(
 ) -> Result<(), Reason>
     requires first { Names state.now.graph.types a }
     requires second { Names state.now.graph.types b }
-    ensures { (naming : Naming) → IsOneToOne naming
-        → Answers result (R.passes rules.now (means naming state.now.graph a) (means naming state.now.graph b)) }
+    ensures { (numbering : Numbering) → IsOneToOne numbering
+        → Answers result (R.passes rules.now (means numbering state.now.graph a) (means numbering state.now.graph b)) }
 {
     let types = state.graph.types();
     rules.subtype(types, a, b)

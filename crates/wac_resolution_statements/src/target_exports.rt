@@ -6,7 +6,7 @@ ghost use Rattle.wac_graph_types.specs.Table.{Names, ItemsNamed};
 ghost use Rattle.wac_graph_types.specs.Words.{described};
 ghost use Rattle.wac_ast_base.specs.Names.{package_path_of};
 ghost use Rattle.wac_resolution_errors.specs.Error.{missing_target_export};
-ghost use Rattle.wac_resolution_errors.specs.Told.{told};
+ghost use Rattle.wac_resolution_errors.specs.ErrorModel.{error_model};
 ghost use Rattle.wac_resolution_rules.specs.Errors.{ErrorSays};
 ghost use Rattle.wac_resolution_rules.specs.Find.{names_of};
 ghost use Rattle.wac_resolution_rules.specs.Given.{rules_of};
@@ -29,7 +29,7 @@ fn missing(
     target: &Target<'_, '_>,
     export: &NamedKind<'_>,
 ) -> Result<Error, AllocError>
-    ensures { IfOk result (λ e. told e
+    ensures { IfOk result (λ e. error_model e
         ≡ missing_target_export export.now.name.now (package_path_of target.now.path.now).string
         (described export.now.kind) (package_path_of target.now.path.now).span) }
 {

@@ -5,7 +5,7 @@ ghost use Rattle.wac_graph_types.specs.Scope.{look_up};
 ghost use Rattle.wac_graph_types.specs.Table.{Names};
 ghost use Rattle.wac_ast_base.specs.Names.{package_path_of};
 ghost use Rattle.wac_resolution_errors.specs.Error.{import_not_in_target, target_mismatch};
-ghost use Rattle.wac_resolution_errors.specs.Told.{told};
+ghost use Rattle.wac_resolution_errors.specs.ErrorModel.{error_model};
 ghost use Rattle.wac_resolution_rules.specs.Errors.{ErrorSays};
 ghost use Rattle.wac_resolution_rules.specs.Given.{rules_of};
 ghost use Rattle.wac_resolution_statements.specs.Imported.{of_node, of_kind};
@@ -28,7 +28,7 @@ fn not_in_target(
     name: &str,
     span: Option<SourceSpan>,
 ) -> Result<Error, AllocError>
-    ensures { IfOk result (λ e. told e
+    ensures { IfOk result (λ e. error_model e
         ≡ import_not_in_target name.now (package_path_of target.now.path.now).string span) }
 {
     Ok(Error::ImportNotInTarget {
@@ -55,7 +55,7 @@ pub(crate) fn mismatch(
     source: Reason,
     span: Option<SourceSpan>,
 ) -> Result<Error, AllocError>
-    ensures { IfOk result (λ e. told e
+    ensures { IfOk result (λ e. error_model e
         ≡ target_mismatch tested.now.side tested.now.name.now (package_path_of target.now.path.now).string source
         span) }
 {

@@ -3,7 +3,7 @@ ghost use Rattle.std.specs.Prelude.{◌≡◌, IfOk};
 ghost use Rattle.wac_ast_base.specs.Names.{package_path_of};
 ghost use Rattle.wac_graph.specs.Graph.{Parts};
 ghost use Rattle.wac_graph.specs.Means.{means};
-ghost use Rattle.wac_graph.specs.Origin.{Naming};
+ghost use Rattle.wac_graph.specs.Origin.{Numbering};
 ghost use Rattle.wac_resolution_rules.specs.BrokenStatements.{IsNotWorld};
 ghost use Rattle.wac_resolution_rules.specs.Errors.{ErrorSays};
 
@@ -20,8 +20,8 @@ pub(crate) fn world_of(
     path: &PackagePath<'_>,
 ) -> Result<WorldId, Error>
     ensures ok { IfOk result (λ w. kind ≡ ItemKind.Ty (Type.World w)) }
-    ensures err { ErrorSays result (λ e. (naming : Naming) (g : Parts)
-        → IsNotWorld (package_path_of path.now) (means naming g kind) e) }
+    ensures err { ErrorSays result (λ e. (numbering : Numbering) (g : Parts)
+        → IsNotWorld (package_path_of path.now) (means numbering g kind) e) }
 {
     match kind {
         ItemKind::Ty(Type::World(world)) => Ok(world),

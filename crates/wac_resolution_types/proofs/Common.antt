@@ -10,7 +10,7 @@ pub use Rattle.wac_ast_types.specs.Declarations.{constructor_of, enum_case_of, e
 pub use Rattle.wac_ast_types.specs.Types.{optional_of, ty_of}
 pub use Rattle.wac_graph.specs.Graph.{Parts}
 pub use Rattle.wac_graph.specs.Means.{declared_count, entry_means, means, origin_at}
-pub use Rattle.wac_graph.specs.Origin.{Naming}
+pub use Rattle.wac_graph.specs.Origin.{Numbering}
 pub use Rattle.wac_graph_types.specs.Entry.{Slot, case_children, defined_label, named_result_children, optional, tuple_children, value_children}
 pub use Rattle.wac_graph_types.specs.Kind.{a_resource, func}
 pub use Rattle.wac_graph_types.specs.Label.{Plain}
@@ -29,7 +29,7 @@ pub use Rattle.wac_graph_types.specs.declared.kind.ValueType.{ValueType}
 pub use Rattle.wac_lexer.specs.Span.{Span}
 pub use Rattle.wac_resolution_errors.proofs.Reports.{reports}
 pub use Rattle.wac_resolution_errors.specs.Error.{Error, borrow_in_result, duplicate_enum_case, duplicate_flag, duplicate_resource_method}
-pub use Rattle.wac_resolution_errors.specs.Told.{told}
+pub use Rattle.wac_resolution_errors.specs.ErrorModel.{error_model}
 pub use Rattle.wac_resolution_rules.proofs.StepLaws.{fails_at_map, steps_on_map}
 pub use Rattle.wac_resolution_rules.specs.Bodies.{Body, DeclaresIn, HasItem, HasMethod, constructor_name, externs, method_name, name_of_method, static_name, with_count, with_extern, with_resource, with_type}
 pub use Rattle.wac_resolution_rules.specs.BrokenBodies.{IsSecondMethod, ItemBroken, MethodBroken, Owner, method_kind}
@@ -38,7 +38,7 @@ pub use Rattle.wac_resolution_rules.specs.BrokenTypes.{FuncBroken, OptionalBroke
 pub use Rattle.wac_resolution_rules.specs.Declarations.{HasCase, HasEnumCase, HasField, HasFlag, HasOption, IsAlias, IsEnum, IsFlags, IsRecord, IsTypeAlias, IsTypeDecl, IsVariant, alone}
 pub use Rattle.wac_resolution_rules.specs.Types.{HasOptional, HasParam, HasResult, HasResultType, HasResults, HasType, HaveTypes, IsFuncWith, first_params}
 pub use Rattle.wac_resolution_state.proofs.Grown.{child_kept, child_named, each_still_named, grows_on, grows_self, plainly_on, scope_kept, still_named}
-pub use Rattle.wac_resolution_state.proofs.Scopes.{memory_told}
+pub use Rattle.wac_resolution_state.proofs.Scopes.{memory_model}
 pub use Rattle.wac_resolution_state.specs.Bindings.{Bindings, places_of, values_of}
 pub use Rattle.wac_resolution_state.specs.Growth.{AddsDefined, AddsFunc, AddsResource, Grows, GrowsPlainly}
 pub use Rattle.wac_resolution_state.specs.Named.{KindIs, ValueIs, scope_of}

@@ -1,5 +1,5 @@
 -- Bodies of a graph: what they mean as they and the graph grow.
-use Rattle.wac_resolution_types.proofs.Common.{◌≡◌, ◌∙◌, ℕ, List, [], ◌∷◌, ◌++◌, Some, refl, sym, ap, subst, option_map, map_push, Span, ExternKind, ItemKind, Meaning, Named, Scope, look_up, StandsFor, IsFresh, with_named, Uses, items_mean, uses_mean, Names, ItemsNamed, Parts, means, entry_means, declared_count, Naming, Body, externs, with_extern, with_count, with_type, Bindings, values_of, places_of, scope_of}
+use Rattle.wac_resolution_types.proofs.Common.{◌≡◌, ◌∙◌, ℕ, List, [], ◌∷◌, ◌++◌, Some, refl, sym, ap, subst, option_map, map_push, Span, ExternKind, ItemKind, Meaning, Named, Scope, look_up, StandsFor, IsFresh, with_named, Uses, items_mean, uses_mean, Names, ItemsNamed, Parts, means, entry_means, declared_count, Numbering, Body, externs, with_extern, with_count, with_type, Bindings, values_of, places_of, scope_of}
 use Rattle.wac_graph_types.specs.declared.kind.ExternKind.TheVariants as sides
 use Rattle.wac_graph_types.specs.declared.kind.ItemKind.TheVariants as kinds
 use Rattle.wac_graph_types.specs.declared.entry.Entry.{Entry}
@@ -11,8 +11,8 @@ use Rattle.wac_resolution_types.specs.Bodies.{body_in, UsesNamed, Covers, IsBody
 use Rattle.wac_resolution_rules.proofs.Scopes.{fresh_before, fresh_after}
 
 -- each kind of the old graph means what it meant
-abbrev pub KeepsMeant : Naming → Parts → Parts → Type 0
-KeepsMeant naming old new = (k : ItemKind) → Names old.types k → means naming new k ≡ means naming old k
+abbrev pub KeepsMeant : Numbering → Parts → Parts → Type 0
+KeepsMeant numbering old new = (k : ItemKind) → Names old.types k → means numbering new k ≡ means numbering old k
 
 -- ---- more types
 
@@ -34,27 +34,27 @@ body_still es fs side b keeps h = record {
   used = h.used;
 }
 
-items_kept : (naming : Naming) (old new : Parts) (all : Named ItemKind) → KeepsMeant naming old new → ItemsNamed old.types all → items_mean (entry_means naming new) all ≡ items_mean (entry_means naming old) all
-items_kept naming old new [] keeps h = refl
-items_kept naming old new (e ∷ all) keeps h =
-    let one : means naming new e.1 ≡ means naming old e.1 = keeps e.1 h.0 in
-    let rest : items_mean (entry_means naming new) all ≡ items_mean (entry_means naming old) all = items_kept naming old new all keeps h.1 in
+items_kept : (numbering : Numbering) (old new : Parts) (all : Named ItemKind) → KeepsMeant numbering old new → ItemsNamed old.types all → items_mean (entry_means numbering new) all ≡ items_mean (entry_means numbering old) all
+items_kept numbering old new [] keeps h = refl
+items_kept numbering old new (e ∷ all) keeps h =
+    let one : means numbering new e.1 ≡ means numbering old e.1 = keeps e.1 h.0 in
+    let rest : items_mean (entry_means numbering new) all ≡ items_mean (entry_means numbering old) all = items_kept numbering old new all keeps h.1 in
     cc
 
-uses_kept : (naming : Naming) (old new : Parts) (all : Named UsedType) → KeepsMeant naming old new → UsesNamed old.types all → uses_mean (entry_means naming new) all ≡ uses_mean (entry_means naming old) all
-uses_kept naming old new [] keeps h = refl
-uses_kept naming old new (u ∷ all) keeps h =
-    let one : means naming new (kinds.Instance u.1.interface) ≡ means naming old (kinds.Instance u.1.interface) = keeps (kinds.Instance u.1.interface) h.0 in
-    let rest : uses_mean (entry_means naming new) all ≡ uses_mean (entry_means naming old) all = uses_kept naming old new all keeps h.1 in
+uses_kept : (numbering : Numbering) (old new : Parts) (all : Named UsedType) → KeepsMeant numbering old new → UsesNamed old.types all → uses_mean (entry_means numbering new) all ≡ uses_mean (entry_means numbering old) all
+uses_kept numbering old new [] keeps h = refl
+uses_kept numbering old new (u ∷ all) keeps h =
+    let one : means numbering new (kinds.Instance u.1.interface) ≡ means numbering old (kinds.Instance u.1.interface) = keeps (kinds.Instance u.1.interface) h.0 in
+    let rest : uses_mean (entry_means numbering new) all ≡ uses_mean (entry_means numbering old) all = uses_kept numbering old new all keeps h.1 in
     cc
 
 -- a body still means the same, but for how many resources are declared
-pub body_kept : (naming : Naming) (old new : Parts) (side : ExternKind) (b : Lists) → KeepsMeant naming old new → IsBody old.types side b → body_in naming new b ≡ with_count (body_in naming old b) (declared_count new)
-body_kept naming old new side b keeps h =
-    let scope : scope_of naming new (values_of b.names) ≡ scope_of naming old (values_of b.names) = items_kept naming old new (values_of b.names) keeps h.names in
-    let uses : uses_mean (entry_means naming new) b.uses ≡ uses_mean (entry_means naming old) b.uses = uses_kept naming old new b.uses keeps h.uses in
-    let imports : items_mean (entry_means naming new) b.imports ≡ items_mean (entry_means naming old) b.imports = items_kept naming old new b.imports keeps h.imports in
-    let exports : items_mean (entry_means naming new) b.exports ≡ items_mean (entry_means naming old) b.exports = items_kept naming old new b.exports keeps h.exports in
+pub body_kept : (numbering : Numbering) (old new : Parts) (side : ExternKind) (b : Lists) → KeepsMeant numbering old new → IsBody old.types side b → body_in numbering new b ≡ with_count (body_in numbering old b) (declared_count new)
+body_kept numbering old new side b keeps h =
+    let scope : scope_of numbering new (values_of b.names) ≡ scope_of numbering old (values_of b.names) = items_kept numbering old new (values_of b.names) keeps h.names in
+    let uses : uses_mean (entry_means numbering new) b.uses ≡ uses_mean (entry_means numbering old) b.uses = uses_kept numbering old new b.uses keeps h.uses in
+    let imports : items_mean (entry_means numbering new) b.imports ≡ items_mean (entry_means numbering old) b.imports = items_kept numbering old new b.imports keeps h.imports in
+    let exports : items_mean (entry_means numbering new) b.exports ≡ items_mean (entry_means numbering old) b.exports = items_kept numbering old new b.exports keeps h.exports in
     let made : Scope → Uses → Named Meaning → Named Meaning → Body = λ sc us is es. record { scope = sc; uses = us; imports = is; exports = es; resources = declared_count new } in
     cc
 
@@ -131,29 +131,29 @@ body_with_bound es sides.Export b name at k h here = record {
 items_mean_append : (f : ℕ → Meaning) (all : Named ItemKind) (name : List ℕ) (k : ItemKind) → items_mean f (with_named all name k) ≡ with_named (items_mean f all) name (Rattle.wac_graph_types.specs.Meaning.of_kind f k)
 items_mean_append f all name k = map_push (λ e. (e.0, Rattle.wac_graph_types.specs.Meaning.of_kind f e.1)) all (name, k)
 
-pub means_with_kind : (naming : Naming) (g : Parts) (side : ExternKind) (b : Lists) (name : List ℕ) (k : ItemKind) → body_in naming g (with_kind side b name k) ≡ with_extern side (body_in naming g b) name (means naming g k)
-means_with_kind naming g sides.Import b name k = ap (λ (l : Named Meaning). record (body_in naming g b) { imports = l }) (items_mean_append (entry_means naming g) b.imports name k)
-means_with_kind naming g sides.Export b name k = ap (λ (l : Named Meaning). record (body_in naming g b) { exports = l }) (items_mean_append (entry_means naming g) b.exports name k)
+pub means_with_kind : (numbering : Numbering) (g : Parts) (side : ExternKind) (b : Lists) (name : List ℕ) (k : ItemKind) → body_in numbering g (with_kind side b name k) ≡ with_extern side (body_in numbering g b) name (means numbering g k)
+means_with_kind numbering g sides.Import b name k = ap (λ (l : Named Meaning). record (body_in numbering g b) { imports = l }) (items_mean_append (entry_means numbering g) b.imports name k)
+means_with_kind numbering g sides.Export b name k = ap (λ (l : Named Meaning). record (body_in numbering g b) { exports = l }) (items_mean_append (entry_means numbering g) b.exports name k)
 
-pub means_with_bound : (naming : Naming) (g : Parts) (side : ExternKind) (b : Lists) (name : List ℕ) (at : Span) (k : ItemKind) → body_in naming g (with_bound side b name at k) ≡ with_type side (body_in naming g b) name (means naming g k)
-means_with_bound naming g side b name at k =
-    let scope : scope_of naming g (values_of (with_named b.names name (at, k))) ≡ with_named (scope_of naming g (values_of b.names)) name (means naming g k)
-    = ap (scope_of naming g) (values_append b.names name at k) ∙ items_mean_append (entry_means naming g) (values_of b.names) name k in
-    means_with_kind naming g side (record b { names = with_named b.names name (at, k) }) name k
-    ∙ ap (λ (l : Scope). with_extern side (record (body_in naming g b) { scope = l }) name (means naming g k)) scope
+pub means_with_bound : (numbering : Numbering) (g : Parts) (side : ExternKind) (b : Lists) (name : List ℕ) (at : Span) (k : ItemKind) → body_in numbering g (with_bound side b name at k) ≡ with_type side (body_in numbering g b) name (means numbering g k)
+means_with_bound numbering g side b name at k =
+    let scope : scope_of numbering g (values_of (with_named b.names name (at, k))) ≡ with_named (scope_of numbering g (values_of b.names)) name (means numbering g k)
+    = ap (scope_of numbering g) (values_append b.names name at k) ∙ items_mean_append (entry_means numbering g) (values_of b.names) name k in
+    means_with_kind numbering g side (record b { names = with_named b.names name (at, k) }) name k
+    ∙ ap (λ (l : Scope). with_extern side (record (body_in numbering g b) { scope = l }) name (means numbering g k)) scope
 
 -- ---- what a name denotes
 
-pub extern_fresh : (naming : Naming) (g : Parts) (side : ExternKind) (b : Lists) (name : List ℕ) → IsFresh name (kinds_of side b) → IsFresh name (externs side (body_in naming g b))
-extern_fresh naming g sides.Import b name h = items_found (entry_means naming g) b.imports name ∙ ap (option_map (means naming g)) h
-extern_fresh naming g sides.Export b name h = items_found (entry_means naming g) b.exports name ∙ ap (option_map (means naming g)) h
+pub extern_fresh : (numbering : Numbering) (g : Parts) (side : ExternKind) (b : Lists) (name : List ℕ) → IsFresh name (kinds_of side b) → IsFresh name (externs side (body_in numbering g b))
+extern_fresh numbering g sides.Import b name h = items_found (entry_means numbering g) b.imports name ∙ ap (option_map (means numbering g)) h
+extern_fresh numbering g sides.Export b name h = items_found (entry_means numbering g) b.exports name ∙ ap (option_map (means numbering g)) h
 
-pub extern_stands : (naming : Naming) (g : Parts) (side : ExternKind) (b : Lists) (name : List ℕ) (k : ItemKind) → look_up name (kinds_of side b) ≡ Some k → StandsFor (externs side (body_in naming g b)) name (means naming g k)
-extern_stands naming g sides.Import b name k h = items_found (entry_means naming g) b.imports name ∙ ap (option_map (means naming g)) h
-extern_stands naming g sides.Export b name k h = items_found (entry_means naming g) b.exports name ∙ ap (option_map (means naming g)) h
+pub extern_stands : (numbering : Numbering) (g : Parts) (side : ExternKind) (b : Lists) (name : List ℕ) (k : ItemKind) → look_up name (kinds_of side b) ≡ Some k → StandsFor (externs side (body_in numbering g b)) name (means numbering g k)
+extern_stands numbering g sides.Import b name k h = items_found (entry_means numbering g) b.imports name ∙ ap (option_map (means numbering g)) h
+extern_stands numbering g sides.Export b name k h = items_found (entry_means numbering g) b.exports name ∙ ap (option_map (means numbering g)) h
 
-pub bound_fresh : (naming : Naming) (g : Parts) (b : Lists) (name : List ℕ) → IsFresh name (values_of b.names) → IsFresh name (body_in naming g b).scope
-bound_fresh naming g b name h = items_found (entry_means naming g) (values_of b.names) name ∙ ap (option_map (means naming g)) h
+pub bound_fresh : (numbering : Numbering) (g : Parts) (b : Lists) (name : List ℕ) → IsFresh name (values_of b.names) → IsFresh name (body_in numbering g b).scope
+bound_fresh numbering g b name h = items_found (entry_means numbering g) (values_of b.names) name ∙ ap (option_map (means numbering g)) h
 
-pub bound_stands : (naming : Naming) (g : Parts) (b : Bindings ItemKind) (name : List ℕ) (k : ItemKind) → look_up name (values_of b) ≡ Some k → StandsFor (scope_of naming g (values_of b)) name (means naming g k)
-bound_stands naming g b name k h = items_found (entry_means naming g) (values_of b) name ∙ ap (option_map (means naming g)) h
+pub bound_stands : (numbering : Numbering) (g : Parts) (b : Bindings ItemKind) (name : List ℕ) (k : ItemKind) → look_up name (values_of b) ≡ Some k → StandsFor (scope_of numbering g (values_of b)) name (means numbering g k)
+bound_stands numbering g b name k h = items_found (entry_means numbering g) (values_of b) name ∙ ap (option_map (means numbering g)) h

@@ -1,5 +1,5 @@
 -- Names alone, in order: flags and the cases of an enum.
-use Rattle.wac_resolution_types.proofs.Common.{◌≡◌, ◌∙◌, ◌+◌, ◌<◌, ℕ, List, [], ◌∷◌, ◌++◌, Some, None, Bool, true, false, cond, ◌||◌, refl, sym, ap, subst, map, take, length, get_or, String, string_bytes, Global, map_push, Meaning, Slot, Named, look_up, StandsFor, IsFresh, with_named, nothing, naming_each, name_children, Steps, Fails, steps_on_map, fails_at_map, memory_told}
+use Rattle.wac_resolution_types.proofs.Common.{◌≡◌, ◌∙◌, ◌+◌, ◌<◌, ℕ, List, [], ◌∷◌, ◌++◌, Some, None, Bool, true, false, cond, ◌||◌, refl, sym, ap, subst, map, take, length, get_or, String, string_bytes, Global, map_push, Meaning, Slot, Named, look_up, StandsFor, IsFresh, with_named, nothing, naming_each, name_children, Steps, Fails, steps_on_map, fails_at_map, memory_model}
 use Rattle.std.specs.List.{list_any}
 use Rattle.std.specs.Str.{bytes_eq}
 use Rattle.wac_resolution_types.specs.Declarations.{names_alone}
@@ -25,7 +25,7 @@ name_stands name names is = alone_found name names ∙ ap (λ (b : Bool). cond b
 pub name_fresh : (name : List ℕ) (names : List (String Global)) → list_any (bytes_eq name) (map string_bytes names) ≡ false → IsFresh name (names_alone names)
 name_fresh name names is = alone_found name names ∙ ap (λ (b : Bool). cond b (Some nothing) None) is
 
-pub ruleset names_found = (name_stands, name_fresh, memory_told)
+pub ruleset names_found = (name_stands, name_fresh, memory_model)
 
 -- names, each of which denotes nothing
 abbrev alone : List (List ℕ) → Named Meaning

@@ -1,5 +1,5 @@
 -- What a type means, by what its parts mean.
-use Rattle.wac_resolution_types.proofs.Common.{◌≡◌, ◌∙◌, ◌+◌, ◌<◌, ℕ, zero, suc, List, [], ◌∷◌, ◌++◌, Option, refl, sym, ap, subst, map, inl, inr, take, drop, length, get_or, arith, take_more, map_push, Vec, Box, Global, Ty, Types, OptionalTy, types_from, ItemKind, ValueType, Entry, optional, tuple_children, Plain, Meaning, EachKind, Named, Scope, types_mean, optional_means, defined_value, Names, ItemsNamed, Parts, means, entry_means, Naming, ty_of, optional_of, Error, HasType, HasOptional, HaveTypes, TypeBroken, OptionalBroken, TypesBroken, Grows, AddsDefined, scope_of, ValueIs, grows_self, plainly_on, scope_kept, child_kept, each_still_named}
+use Rattle.wac_resolution_types.proofs.Common.{◌≡◌, ◌∙◌, ◌+◌, ◌<◌, ℕ, zero, suc, List, [], ◌∷◌, ◌++◌, Option, refl, sym, ap, subst, map, inl, inr, take, drop, length, get_or, arith, take_more, map_push, Vec, Box, Global, Ty, Types, OptionalTy, types_from, ItemKind, ValueType, Entry, optional, tuple_children, Plain, Meaning, EachKind, Named, Scope, types_mean, optional_means, defined_value, Names, ItemsNamed, Parts, means, entry_means, Numbering, ty_of, optional_of, Error, HasType, HasOptional, HaveTypes, TypeBroken, OptionalBroken, TypesBroken, Grows, AddsDefined, scope_of, ValueIs, grows_self, plainly_on, scope_kept, child_kept, each_still_named}
 use Rattle.wac_lexer.specs.Span.{Span}
 use Rattle.wac_ast_grammar.specs.Tree as tree
 use Rattle.wac_graph_types.specs.declared.kind.ItemKind.TheVariants as kinds
@@ -16,14 +16,14 @@ as_ty old new ks v x t e h = subst (λ (u : Ty). TypeIs old new ks u v) (sym e) 
 
 -- nothing was added
 pub value_type_is : (g : Parts) (ks : Named ItemKind) (t : Ty) (v : ValueType) → ItemsNamed g.types ks → ValueIs ks t v → TypeIs g g ks t v
-value_type_is g ks t v named h = record { grows = grows_self g; named = h.named g.types named; is = λ naming. h.is naming g }
+value_type_is g ks t v named h = record { grows = grows_self g; named = h.named g.types named; is = λ numbering. h.is numbering g }
 
 pub tuple_is : (old mid new : Parts) (ks : Named ItemKind) (ts : Types) (s : Span) (vs : Vec ValueType Global) (v : ValueType)
     → TypesAre old mid ks ts vs.items → AddsDefined mid new (defined.Tuple vs) v → TypeIs old new ks (Ty.tuple ts s) v
 tuple_is old mid new ks ts s vs v h a = record {
   grows = plainly_on old mid new h.grows a.grows;
   named = a.named;
-  is = λ naming. (types_mean (entry_means naming mid) vs.items, h.are naming, a.is naming);
+  is = λ numbering. (types_mean (entry_means numbering mid) vs.items, h.are numbering, a.is numbering);
 }
 
 pub result_is : (old first second new : Parts) (ks : Named ItemKind) (t u : OptionalTy) (s : Span) (x y : Option ValueType) (v : ValueType)
@@ -31,19 +31,19 @@ pub result_is : (old first second new : Parts) (ks : Named ItemKind) (t u : Opti
 result_is old first second new ks t u s x y v named p q a = record {
   grows = plainly_on old first new p.grows (plainly_on first second new q.grows a.grows);
   named = a.named;
-  is = λ naming.
-      let scope : scope_of naming first ks ≡ scope_of naming old ks = scope_kept old first ks naming p.grows.grows named in
-      let kept : optional_means (entry_means naming second) x ≡ optional_means (entry_means naming first) x = child_kept first second (optional x) naming q.grows.grows p.named in (
-        optional_means (entry_means naming first) x,
-        optional_means (entry_means naming second) y,
-        p.is naming,
-        subst (λ (sc : Scope). HasOptional sc u (optional_means (entry_means naming second) y)) scope (q.is naming),
-        a.is naming ∙ ap (λ (m : Meaning). defined_value Plain.result (result_children m (optional_means (entry_means naming second) y))) kept,
+  is = λ numbering.
+      let scope : scope_of numbering first ks ≡ scope_of numbering old ks = scope_kept old first ks numbering p.grows.grows named in
+      let kept : optional_means (entry_means numbering second) x ≡ optional_means (entry_means numbering first) x = child_kept first second (optional x) numbering q.grows.grows p.named in (
+        optional_means (entry_means numbering first) x,
+        optional_means (entry_means numbering second) y,
+        p.is numbering,
+        subst (λ (sc : Scope). HasOptional sc u (optional_means (entry_means numbering second) y)) scope (q.is numbering),
+        a.is numbering ∙ ap (λ (m : Meaning). defined_value Plain.result (result_children m (optional_means (entry_means numbering second) y))) kept,
       );
 }
 
 pub no_types : (g : Parts) (ks : Named ItemKind) → TypesAre g g ks tree.Types.none []
-no_types g ks = record { grows = grows_self g; named = tt; are = λ naming. refl }
+no_types g ks = record { grows = grows_self g; named = tt; are = λ numbering. refl }
 
 -- one more type
 more_types : (scope : Scope) (ts : List Ty) (ms : List Meaning) (t : Ty) (m : Meaning) → HaveTypes scope (types_from ts) ms → HasType scope t m → HaveTypes scope (types_from (ts ++ t ∷ [])) (ms ++ m ∷ [])
@@ -54,11 +54,11 @@ more_named : (es : List Entry) (vs : List ValueType) (v : ValueType) → EachKin
 more_named es [] v h here = (here, tt)
 more_named es (w ∷ vs) v h here = (h.0, more_named es vs v h.1 here)
 
-types_kept : (old new : Parts) (vs : List ValueType) (naming : Naming) → Grows old new → EachKind (Names old.types) (tuple_children vs) → types_mean (entry_means naming new) vs ≡ types_mean (entry_means naming old) vs
-types_kept old new [] naming g h = refl
-types_kept old new (v ∷ vs) naming g h =
-    let one : means naming new (kinds.Value v) ≡ means naming old (kinds.Value v) = g.kinds naming (kinds.Value v) h.0 in
-    let rest : types_mean (entry_means naming new) vs ≡ types_mean (entry_means naming old) vs = types_kept old new vs naming g h.1 in
+types_kept : (old new : Parts) (vs : List ValueType) (numbering : Numbering) → Grows old new → EachKind (Names old.types) (tuple_children vs) → types_mean (entry_means numbering new) vs ≡ types_mean (entry_means numbering old) vs
+types_kept old new [] numbering g h = refl
+types_kept old new (v ∷ vs) numbering g h =
+    let one : means numbering new (kinds.Value v) ≡ means numbering old (kinds.Value v) = g.kinds numbering (kinds.Value v) h.0 in
+    let rest : types_mean (entry_means numbering new) vs ≡ types_mean (entry_means numbering old) vs = types_kept old new vs numbering g h.1 in
     cc
 
 types_more : (old mid new : Parts) (ks : Named ItemKind) (ts : List Ty) (vs : List ValueType) (t : Ty) (v : ValueType)
@@ -66,12 +66,12 @@ types_more : (old mid new : Parts) (ks : Named ItemKind) (ts : List Ty) (vs : Li
 types_more old mid new ks ts vs t v named p q = record {
   grows = plainly_on old mid new p.grows q.grows;
   named = more_named new.types vs v (each_still_named mid new (tuple_children vs) q.grows.grows p.named) q.named;
-  are = λ naming.
-      let f : ℕ → Meaning = entry_means naming new in
-      let scope : scope_of naming mid ks ≡ scope_of naming old ks = scope_kept old mid ks naming p.grows.grows named in
-      let kept : types_mean f vs ≡ types_mean (entry_means naming mid) vs = types_kept mid new vs naming q.grows.grows p.named in
-      subst (HaveTypes (scope_of naming old ks) (types_from (ts ++ t ∷ []))) (sym (map_push (λ w. means naming new (kinds.Value w)) vs v ∙ ap (λ (l : List Meaning). l ++ means naming new (kinds.Value v) ∷ []) kept))
-      (more_types (scope_of naming old ks) ts (types_mean (entry_means naming mid) vs) t (means naming new (kinds.Value v)) (p.are naming) (subst (λ (sc : Scope). HasType sc t (means naming new (kinds.Value v))) scope (q.is naming)));
+  are = λ numbering.
+      let f : ℕ → Meaning = entry_means numbering new in
+      let scope : scope_of numbering mid ks ≡ scope_of numbering old ks = scope_kept old mid ks numbering p.grows.grows named in
+      let kept : types_mean f vs ≡ types_mean (entry_means numbering mid) vs = types_kept mid new vs numbering q.grows.grows p.named in
+      subst (HaveTypes (scope_of numbering old ks) (types_from (ts ++ t ∷ []))) (sym (map_push (λ w. means numbering new (kinds.Value w)) vs v ∙ ap (λ (l : List Meaning). l ++ means numbering new (kinds.Value v) ∷ []) kept))
+      (more_types (scope_of numbering old ks) ts (types_mean (entry_means numbering mid) vs) t (means numbering new (kinds.Value v)) (p.are numbering) (subst (λ (sc : Scope). HasType sc t (means numbering new (kinds.Value v))) scope (q.is numbering)));
 }
 
 -- the types up to the next one
@@ -96,13 +96,13 @@ split_at (y ∷ xs) (suc i) x h is = ap (λ (l : List Ty). ty_of y ∷ l) (split
 
 pub types_break : (old mid : Parts) (ks : Named ItemKind) (xs : List «Type») (i : ℕ) (x : «Type») (vs : List ValueType) (e : Error)
     → i < length xs → x ≡ get_or xs i x → ItemsNamed old.types ks → TypesAre old mid ks (types_from (map ty_of (take i xs))) vs
-    → ((naming : Naming) → TypeBroken (scope_of naming mid ks) (ty_of x) e)
-    → (naming : Naming) → TypesBroken (scope_of naming old ks) (types_from (map ty_of xs)) e
-types_break old mid ks xs i x vs e within read named p b naming =
-    let scope : scope_of naming mid ks ≡ scope_of naming old ks = scope_kept old mid ks naming p.grows.grows named in
-    subst (λ (l : List Ty). TypesBroken (scope_of naming old ks) (types_from l) e) (sym (split_at xs i x within read))
-    (breaks_later (scope_of naming old ks) (map ty_of (take i xs)) (map ty_of (drop (suc i) xs)) (ty_of x) (types_mean (entry_means naming mid) vs) e (p.are naming)
-    (subst (λ (sc : Scope). TypeBroken sc (ty_of x) e) scope (b naming)))
+    → ((numbering : Numbering) → TypeBroken (scope_of numbering mid ks) (ty_of x) e)
+    → (numbering : Numbering) → TypesBroken (scope_of numbering old ks) (types_from (map ty_of xs)) e
+types_break old mid ks xs i x vs e within read named p b numbering =
+    let scope : scope_of numbering mid ks ≡ scope_of numbering old ks = scope_kept old mid ks numbering p.grows.grows named in
+    subst (λ (l : List Ty). TypesBroken (scope_of numbering old ks) (types_from l) e) (sym (split_at xs i x within read))
+    (breaks_later (scope_of numbering old ks) (map ty_of (take i xs)) (map ty_of (drop (suc i) xs)) (ty_of x) (types_mean (entry_means numbering mid) vs) e (p.are numbering)
+    (subst (λ (sc : Scope). TypeBroken sc (ty_of x) e) scope (b numbering)))
 
 -- ---- by the code's trees
 
@@ -113,10 +113,10 @@ tuple_type_is old mid new ks x xs s ys vs v is same h a =
     (tuple_is old mid new ks (types_from (map ty_of xs.items)) s vs v (subst (λ (l : List «Type»). TypesAre old mid ks (types_from (map ty_of l)) vs.items) same h) a)
 
 pub tuple_breaks : (g : Parts) (ks : Named ItemKind) (x : «Type») (xs : Vec «Type» Global) (s : Span) (ys : List «Type») (e : Error)
-    → x ≡ code.Tuple xs s → ys ≡ xs.items → ((naming : Naming) → TypesBroken (scope_of naming g ks) (types_from (map ty_of ys)) e) → (naming : Naming) → TypeBroken (scope_of naming g ks) (ty_of x) e
-tuple_breaks g ks x xs s ys e is same h naming =
-    subst (λ (t : Ty). TypeBroken (scope_of naming g ks) t e) (sym (ap ty_of is ∙ tuple_tree xs s))
-    (subst (λ (l : List «Type»). TypesBroken (scope_of naming g ks) (types_from (map ty_of l)) e) same (h naming))
+    → x ≡ code.Tuple xs s → ys ≡ xs.items → ((numbering : Numbering) → TypesBroken (scope_of numbering g ks) (types_from (map ty_of ys)) e) → (numbering : Numbering) → TypeBroken (scope_of numbering g ks) (ty_of x) e
+tuple_breaks g ks x xs s ys e is same h numbering =
+    subst (λ (t : Ty). TypeBroken (scope_of numbering g ks) t e) (sym (ap ty_of is ∙ tuple_tree xs s))
+    (subst (λ (l : List «Type»). TypesBroken (scope_of numbering g ks) (types_from (map ty_of l)) e) same (h numbering))
 
 pub result_type_is : (old first second new : Parts) (ks : Named ItemKind) (x : «Type») (o u : Option (Box «Type» Global)) (s : Span) (v w : Option ValueType) (z : ValueType)
     → x ≡ code.Result o u s → ItemsNamed old.types ks → OptionalIs old first ks (optional_of o) v → OptionalIs first second ks (optional_of u) w → AddsDefined second new (defined.Result v w) z → TypeIs old new ks (ty_of x) z
@@ -125,22 +125,22 @@ result_type_is old first second new ks x o u s v w z is named p q a =
     (result_is old first second new ks (optional_of o) (optional_of u) s v w z named p q a)
 
 pub result_breaks : (g : Parts) (ks : Named ItemKind) (x : «Type») (o u : Option (Box «Type» Global)) (s : Span) (e : Error)
-    → x ≡ code.Result o u s → ((naming : Naming) → OptionalBroken (scope_of naming g ks) (optional_of o) e) → (naming : Naming) → TypeBroken (scope_of naming g ks) (ty_of x) e
-result_breaks g ks x o u s e is h naming =
-    subst (λ (t : Ty). TypeBroken (scope_of naming g ks) t e) (sym (ap ty_of is ∙ result_tree o u s)) (inl (h naming))
+    → x ≡ code.Result o u s → ((numbering : Numbering) → OptionalBroken (scope_of numbering g ks) (optional_of o) e) → (numbering : Numbering) → TypeBroken (scope_of numbering g ks) (ty_of x) e
+result_breaks g ks x o u s e is h numbering =
+    subst (λ (t : Ty). TypeBroken (scope_of numbering g ks) t e) (sym (ap ty_of is ∙ result_tree o u s)) (inl (h numbering))
 
 pub result_breaks_later : (old mid : Parts) (ks : Named ItemKind) (x : «Type») (o u : Option (Box «Type» Global)) (s : Span) (v : Option ValueType) (e : Error)
-    → x ≡ code.Result o u s → ItemsNamed old.types ks → OptionalIs old mid ks (optional_of o) v → ((naming : Naming) → OptionalBroken (scope_of naming mid ks) (optional_of u) e)
-    → (naming : Naming) → TypeBroken (scope_of naming old ks) (ty_of x) e
-result_breaks_later old mid ks x o u s v e is named p h naming =
-    let scope : scope_of naming mid ks ≡ scope_of naming old ks = scope_kept old mid ks naming p.grows.grows named in
-    subst (λ (t : Ty). TypeBroken (scope_of naming old ks) t e) (sym (ap ty_of is ∙ result_tree o u s))
-    (inr (optional_means (entry_means naming mid) v, p.is naming, subst (λ (sc : Scope). OptionalBroken sc (optional_of u) e) scope (h naming)))
+    → x ≡ code.Result o u s → ItemsNamed old.types ks → OptionalIs old mid ks (optional_of o) v → ((numbering : Numbering) → OptionalBroken (scope_of numbering mid ks) (optional_of u) e)
+    → (numbering : Numbering) → TypeBroken (scope_of numbering old ks) (ty_of x) e
+result_breaks_later old mid ks x o u s v e is named p h numbering =
+    let scope : scope_of numbering mid ks ≡ scope_of numbering old ks = scope_kept old mid ks numbering p.grows.grows named in
+    subst (λ (t : Ty). TypeBroken (scope_of numbering old ks) t e) (sym (ap ty_of is ∙ result_tree o u s))
+    (inr (optional_means (entry_means numbering mid) v, p.is numbering, subst (λ (sc : Scope). OptionalBroken sc (optional_of u) e) scope (h numbering)))
 
 pub stream_breaks : (g : Parts) (ks : Named ItemKind) (x : «Type») (o : Option (Box «Type» Global)) (s : Span) (e : Error)
-    → x ≡ code.Stream o s → ((naming : Naming) → OptionalBroken (scope_of naming g ks) (optional_of o) e) → (naming : Naming) → TypeBroken (scope_of naming g ks) (ty_of x) e
-stream_breaks g ks x o s e is h naming = subst (λ (t : Ty). TypeBroken (scope_of naming g ks) t e) (sym (ap ty_of is ∙ stream_tree o s)) (h naming)
+    → x ≡ code.Stream o s → ((numbering : Numbering) → OptionalBroken (scope_of numbering g ks) (optional_of o) e) → (numbering : Numbering) → TypeBroken (scope_of numbering g ks) (ty_of x) e
+stream_breaks g ks x o s e is h numbering = subst (λ (t : Ty). TypeBroken (scope_of numbering g ks) t e) (sym (ap ty_of is ∙ stream_tree o s)) (h numbering)
 
 pub future_breaks : (g : Parts) (ks : Named ItemKind) (x : «Type») (o : Option (Box «Type» Global)) (s : Span) (e : Error)
-    → x ≡ code.Future o s → ((naming : Naming) → OptionalBroken (scope_of naming g ks) (optional_of o) e) → (naming : Naming) → TypeBroken (scope_of naming g ks) (ty_of x) e
-future_breaks g ks x o s e is h naming = subst (λ (t : Ty). TypeBroken (scope_of naming g ks) t e) (sym (ap ty_of is ∙ future_tree o s)) (h naming)
+    → x ≡ code.Future o s → ((numbering : Numbering) → OptionalBroken (scope_of numbering g ks) (optional_of o) e) → (numbering : Numbering) → TypeBroken (scope_of numbering g ks) (ty_of x) e
+future_breaks g ks x o s e is h numbering = subst (λ (t : Ty). TypeBroken (scope_of numbering g ks) t e) (sym (ap ty_of is ∙ future_tree o s)) (h numbering)

@@ -16,7 +16,7 @@ use Rattle.wac_graph_types.specs.Steps.{Steps}
 use Rattle.wac_graph_types.specs.Table.{Names, ItemsNamed}
 use Rattle.wac_graph.specs.Graph.{Parts}
 use Rattle.wac_graph.specs.Means.{entry_means, declared_count}
-use Rattle.wac_graph.specs.Origin.{Naming}
+use Rattle.wac_graph.specs.Origin.{Numbering}
 use Rattle.wac_graph.specs.Resources.{resource_entry}
 use Rattle.wac_resolution_rules.specs.Bodies.{Body, HasMethod, with_resource, HasItem}
 use Rattle.wac_resolution_rules.specs.Places.{at_ident}
@@ -29,18 +29,18 @@ use Rattle.wac_resolution_types.specs.Lists.{Lists, lists_of, kinds_of, with_bou
 
 -- ---- what a body means
 
--- under a naming of origins
-abbrev pub body_in : Naming → Parts → Lists → Body
-body_in naming g b = record {
-  scope = scope_of naming g (values_of b.names);
-  uses = uses_mean (entry_means naming g) b.uses;
-  imports = items_mean (entry_means naming g) b.imports;
-  exports = items_mean (entry_means naming g) b.exports;
+-- under a numbering of origins
+abbrev pub body_in : Numbering → Parts → Lists → Body
+body_in numbering g b = record {
+  scope = scope_of numbering g (values_of b.names);
+  uses = uses_mean (entry_means numbering g) b.uses;
+  imports = items_mean (entry_means numbering g) b.imports;
+  exports = items_mean (entry_means numbering g) b.exports;
   resources = declared_count g;
 }
 
-abbrev pub body_of : Naming → Parts → CodeBody → Body
-body_of naming g b = body_in naming g (lists_of b)
+abbrev pub body_of : Numbering → Parts → CodeBody → Body
+body_of numbering g b = body_in numbering g (lists_of b)
 
 -- ---- bodies of a graph
 
@@ -63,32 +63,32 @@ pub record IsBody (es : List Entry) (side : ExternKind) (b : Lists) : Type 0 whe
 
 -- the graph got more types, and the body is another one: these names were bound, and this holds of what both mean
 pub record BodyStep (side : ExternKind) (old new : Parts) (b c : Lists) (bound : Named Span)
-    (holds : Naming → Body → Body → Type 0) : Type 0 where
+    (holds : Numbering → Body → Body → Type 0) : Type 0 where
   pub grows : Grows old new
   pub body : IsBody new.types side c
   pub places : places_of c.names ≡ places_of b.names ++ bound
-  pub goes : (naming : Naming) → holds naming (body_in naming old b) (body_in naming new c)
+  pub goes : (numbering : Numbering) → holds numbering (body_in numbering old b) (body_in numbering new c)
 
 -- ---- resources
 
 -- a method of a resource
 abbrev pub MethodStep : ExternKind → Parts → Parts → List ℕ → ResourceId → Lists → Lists → ResourceMethod → Type 0
 MethodStep side old new name r b c x = BodyStep side old new b c []
-    (λ naming before after. HasMethod side name (entry_means naming old r.0) before x after)
+    (λ numbering before after. HasMethod side name (entry_means numbering old r.0) before x after)
 
 -- methods in order
 abbrev pub MethodSteps : ExternKind → Parts → Parts → List ℕ → ResourceId → Lists → Lists → List ResourceMethod → Type 0
 MethodSteps side old new name r b c xs = BodyStep side old new b c []
-    (λ naming before after. Steps (HasMethod side name (entry_means naming old r.0)) before xs after)
+    (λ numbering before after. Steps (HasMethod side name (entry_means numbering old r.0)) before xs after)
 
 -- a resource without its methods
 pub record ResourceStep (side : ExternKind) (old new : Parts) (b c : Lists) (id : Ident) (r : ResourceId) : Type 0 where
   pub bound : IsFresh id.string (values_of b.names)
   pub fresh : IsFresh id.string (kinds_of side b)
   pub body : BodyStep side old new b c (at_ident id ∷ [])
-      (λ naming before after. after ≡ with_resource naming side before id.string)
+      (λ numbering before after. after ≡ with_resource numbering side before id.string)
   pub there : Names new.types (kinds.Ty (types.Resource r))
-  pub is : (naming : Naming) → entry_means naming new r.0 ≡ resource_entry naming (declared_count old) id.string
+  pub is : (numbering : Numbering) → entry_means numbering new r.0 ≡ resource_entry numbering (declared_count old) id.string
 
 -- ---- declarations of types
 
@@ -101,4 +101,4 @@ pub record IsDeclared (side : ExternKind) (b c : Lists) (id : Ident) (k : ItemKi
 -- what an item declares
 abbrev pub DeclarationStep : ExternKind → Parts → Parts → Lists → Lists → ItemTypeDecl → Type 0
 DeclarationStep side old new b c x = BodyStep side old new b c (at_ident (item_identifier x) ∷ [])
-    (λ naming before after. HasItem naming side before x after)
+    (λ numbering before after. HasItem numbering side before x after)

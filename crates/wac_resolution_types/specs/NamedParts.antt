@@ -13,13 +13,13 @@ use Rattle.wac_graph_types.specs.Steps.{Steps}
 use Rattle.wac_graph_types.specs.Table.{Names}
 use Rattle.wac_graph.specs.Graph.{Parts}
 use Rattle.wac_graph.specs.Means.{entry_means}
-use Rattle.wac_graph.specs.Origin.{Naming}
+use Rattle.wac_graph.specs.Origin.{Numbering}
 use Rattle.wac_resolution_state.specs.Growth.{GrowsPlainly}
 use Rattle.wac_resolution_state.specs.Named.{scope_of}
 
--- what the parts mean, under a naming of origins
-abbrev pub parts_mean : {V : Type 0} → (V → Option ValueType) → Naming → Parts → Named V → Named Meaning
-parts_mean read naming g all = map (λ e. (e.0, optional_means (entry_means naming g) (read e.1))) all
+-- what the parts mean, under a numbering of origins
+abbrev pub parts_mean : {V : Type 0} → (V → Option ValueType) → Numbering → Parts → Named V → Named Meaning
+parts_mean read numbering g all = map (λ e. (e.0, optional_means (entry_means numbering g) (read e.1))) all
 
 -- each type among them names an entry of the table
 abbrev pub PartsNamed : {V : Type 0} → (V → Option ValueType) → List Entry → Named V → Type 0
@@ -39,13 +39,13 @@ pub record PartStep {V X : Type 0} (read : V → Option ValueType) (step : PartR
     (ks : Named ItemKind) (ps qs : Named V) (x : X) : Type 0 where
   pub grows : GrowsPlainly old new
   pub named : PartsNamed read new.types qs
-  pub goes : (naming : Naming)
-      → step (scope_of naming old ks) (parts_mean read naming old ps) x (parts_mean read naming new qs)
+  pub goes : (numbering : Numbering)
+      → step (scope_of numbering old ks) (parts_mean read numbering old ps) x (parts_mean read numbering new qs)
 
 -- so do parts in order
 pub record PartSteps {V X : Type 0} (read : V → Option ValueType) (step : PartRelation X) (old new : Parts)
     (ks : Named ItemKind) (ps qs : Named V) (xs : List X) : Type 0 where
   pub grows : GrowsPlainly old new
   pub named : PartsNamed read new.types qs
-  pub go : (naming : Naming)
-      → Steps (step (scope_of naming old ks)) (parts_mean read naming old ps) xs (parts_mean read naming new qs)
+  pub go : (numbering : Numbering)
+      → Steps (step (scope_of numbering old ks)) (parts_mean read numbering old ps) xs (parts_mean read numbering new qs)

@@ -10,7 +10,7 @@ ghost use Rattle.wac_ast_base.specs.Names.{ident_of};
 ghost use Rattle.wac_ast_types.specs.Types.{ty_of};
 ghost use Rattle.wac_ast_types.specs.Declarations.{type_alias_kind_of};
 ghost use Rattle.wac_graph.specs.Means.{declared_count};
-ghost use Rattle.wac_graph.specs.Origin.{Naming};
+ghost use Rattle.wac_graph.specs.Origin.{Numbering};
 ghost use Rattle.wac_resolution_rules.specs.Types.{HasType};
 ghost use Rattle.wac_resolution_rules.specs.Declarations.{alone, at_root, in_body, IsTypeAlias, IsAlias};
 ghost use Rattle.wac_resolution_rules.specs.BrokenTypes.{TypeBroken, IsUndefined};
@@ -107,11 +107,11 @@ fn alias_of_name(
 ) -> Result<ItemKind, Error>
     requires { ItemsNamed state.old.graph.types (values_of names.now) }
     ensures ok { IfOk result (λ k. KindAdded state.old.graph state.new.graph
-        (λ naming m after. IsTypeAlias (aliasing_at place naming)
-        (scope_of naming state.old.graph (values_of names.now)) (declared_count state.old.graph) name.now
+        (λ numbering m after. IsTypeAlias (aliasing_at place numbering)
+        (scope_of numbering state.old.graph (values_of names.now)) (declared_count state.old.graph) name.now
         (Some (ident_of id.now)) (Ty.ident (ident_of id.now)) m after) k) }
-    ensures err { ErrorSays result (λ e. (naming : Naming)
-        → TypeAliasBroken (aliasing_at place naming) (scope_of naming state.old.graph (values_of names.now))
+    ensures err { ErrorSays result (λ e. (numbering : Numbering)
+        → TypeAliasBroken (aliasing_at place numbering) (scope_of numbering state.old.graph (values_of names.now))
         (declared_count state.old.graph) name.now (Some (ident_of id.now)) (Ty.ident (ident_of id.now)) e) }
 {
     let kind = kind_of(state.alloc, names, id)?;
@@ -133,11 +133,11 @@ fn alias_of_expression(
 ) -> Result<ValueType, Error>
     requires { ItemsNamed state.old.graph.types (values_of names.now) }
     ensures ok { IfOk result (λ v. ValueAdded state.old.graph state.new.graph
-        (λ naming m. (inner : Meaning)
-        × HasType (scope_of naming state.old.graph (values_of names.now)) (ty_of ty.now) inner
+        (λ numbering m. (inner : Meaning)
+        × HasType (scope_of numbering state.old.graph (values_of names.now)) (ty_of ty.now) inner
         × (m ≡ alias_type inner)) v) }
-    ensures err { ErrorSays result (λ e. (naming : Naming)
-        → TypeBroken (scope_of naming state.old.graph (values_of names.now)) (ty_of ty.now) e) }
+    ensures err { ErrorSays result (λ e. (numbering : Numbering)
+        → TypeBroken (scope_of numbering state.old.graph (values_of names.now)) (ty_of ty.now) e) }
 {
     let value = value_type(ty, state, names)?;
     Ok(state.add_defined(DefinedType::Alias(value))?)
@@ -153,11 +153,11 @@ fn alias_of_type(
 ) -> Result<ItemKind, Error>
     requires { ItemsNamed state.old.graph.types (values_of names.now) }
     ensures ok { IfOk result (λ k. KindAdded state.old.graph state.new.graph
-        (λ naming m after. IsTypeAlias (aliasing_at place naming)
-        (scope_of naming state.old.graph (values_of names.now)) (declared_count state.old.graph) name.now
+        (λ numbering m after. IsTypeAlias (aliasing_at place numbering)
+        (scope_of numbering state.old.graph (values_of names.now)) (declared_count state.old.graph) name.now
         (alone (ty_of ty.now)) (ty_of ty.now) m after) k) }
-    ensures err { ErrorSays result (λ e. (naming : Naming)
-        → TypeAliasBroken (aliasing_at place naming) (scope_of naming state.old.graph (values_of names.now))
+    ensures err { ErrorSays result (λ e. (numbering : Numbering)
+        → TypeAliasBroken (aliasing_at place numbering) (scope_of numbering state.old.graph (values_of names.now))
         (declared_count state.old.graph) name.now (alone (ty_of ty.now)) (ty_of ty.now) e) }
 {
     match identifier(ty) {
@@ -179,11 +179,11 @@ pub fn alias(
 ) -> Result<ItemKind, Error>
     requires { ItemsNamed state.old.graph.types (values_of names.now) }
     ensures ok { IfOk result (λ k. KindAdded state.old.graph state.new.graph
-        (λ naming m after. IsAlias (aliasing_at place naming)
-        (scope_of naming state.old.graph (values_of names.now)) (declared_count state.old.graph) name.now
+        (λ numbering m after. IsAlias (aliasing_at place numbering)
+        (scope_of numbering state.old.graph (values_of names.now)) (declared_count state.old.graph) name.now
         (type_alias_kind_of kind.now) m after) k) }
-    ensures err { ErrorSays result (λ e. (naming : Naming)
-        → AliasBroken (aliasing_at place naming) (scope_of naming state.old.graph (values_of names.now))
+    ensures err { ErrorSays result (λ e. (numbering : Numbering)
+        → AliasBroken (aliasing_at place numbering) (scope_of numbering state.old.graph (values_of names.now))
         (declared_count state.old.graph) name.now (type_alias_kind_of kind.now) e) }
 {
     match kind {

@@ -3,7 +3,7 @@ ghost use Rattle.std.specs.Prelude.{IfOk};
 ghost use Rattle.wac_graph_types.specs.Table.{ItemsNamed};
 ghost use Rattle.wac_ast_types.specs.Declarations.{type_decl_of};
 ghost use Rattle.wac_graph.specs.Means.{declared_count};
-ghost use Rattle.wac_graph.specs.Origin.{Naming};
+ghost use Rattle.wac_graph.specs.Origin.{Numbering};
 ghost use Rattle.wac_resolution_rules.specs.Declarations.{IsTypeDecl};
 ghost use Rattle.wac_resolution_rules.specs.BrokenDeclarations.{TypeDeclBroken};
 ghost use Rattle.wac_resolution_rules.specs.Errors.{ErrorSays};
@@ -29,10 +29,10 @@ pub fn type_decl(
 ) -> Result<ItemKind, Error>
     requires { ItemsNamed state.old.graph.types (values_of names.now) }
     ensures ok { IfOk result (λ k. KindAdded state.old.graph state.new.graph
-        (λ naming m after. IsTypeDecl (scope_of naming state.old.graph (values_of names.now))
+        (λ numbering m after. IsTypeDecl (scope_of numbering state.old.graph (values_of names.now))
         (declared_count state.old.graph) (type_decl_of decl.now) m after) k) }
-    ensures err { ErrorSays result (λ e. (naming : Naming)
-        → TypeDeclBroken (scope_of naming state.old.graph (values_of names.now)) (declared_count state.old.graph)
+    ensures err { ErrorSays result (λ e. (numbering : Numbering)
+        → TypeDeclBroken (scope_of numbering state.old.graph (values_of names.now)) (declared_count state.old.graph)
         (type_decl_of decl.now) e) }
 {
     match decl {

@@ -11,7 +11,7 @@ ghost use Rattle.wac_ast_base.specs.Names.{ident_of};
 ghost use Rattle.wac_ast_types.specs.Declarations.{named_type_of, func_type_of};
 ghost use Rattle.wac_graph.specs.Graph.{Parts};
 ghost use Rattle.wac_graph.specs.Means.{entry_means};
-ghost use Rattle.wac_graph.specs.Origin.{Naming};
+ghost use Rattle.wac_graph.specs.Origin.{Numbering};
 ghost use Rattle.wac_resolution_errors.specs.Error.{duplicate_parameter};
 ghost use Rattle.wac_resolution_rules.specs.Types.{first_params, IsFuncWith};
 ghost use Rattle.wac_resolution_rules.specs.BrokenTypes.{IsRepeated, ParamBroken, ParamsBroken, FuncBroken};
@@ -33,7 +33,7 @@ use wac_resolution_errors::Error;
 use wac_resolution_state::{Names, State};
 
 /// Rejects the name of an earlier parameter.
-#[tactic(auto, using(wac_resolution_state::proofs::Scopes::memory_told))]
+#[tactic(auto, using(wac_resolution_state::proofs::Scopes::memory_model))]
 fn check_param(
     alloc: Global,
     kind: FuncKind,
@@ -41,8 +41,8 @@ fn check_param(
     id: &Ident<'_>,
 ) -> Result<(), Error>
     ensures ok { OnOk result (IsFresh id.now.string.now (by_name all.now.entries)) }
-    ensures err { ErrorSays result (λ e. (naming : Naming) (g : Parts)
-        → IsRepeated (types_named naming g (by_name all.now.entries)) (ident_of id.now).string
+    ensures err { ErrorSays result (λ e. (numbering : Numbering) (g : Parts)
+        → IsRepeated (types_named numbering g (by_name all.now.entries)) (ident_of id.now).string
         (duplicate_parameter kind (ident_of id.now).string (ident_of id.now).span) e) }
 {
     match find(all, id.string) {
@@ -92,9 +92,9 @@ fn take_param(
     requires parts { TypesNamed state.old.graph.types (by_name all.old.entries) }
     ensures ok { OnOk result (ParamStep state.old.graph state.new.graph (values_of names.now) (by_name all.old.entries)
         (by_name all.new.entries) (named_type_of param.now)) }
-    ensures err { ErrorSays result (λ e. (naming : Naming) (before : List ParamTree)
-        → ParamBroken kind (scope_of naming state.old.graph (values_of names.now)) e
-        (types_named naming state.old.graph (by_name all.old.entries)) before (named_type_of param.now)) }
+    ensures err { ErrorSays result (λ e. (numbering : Numbering) (before : List ParamTree)
+        → ParamBroken kind (scope_of numbering state.old.graph (values_of names.now)) e
+        (types_named numbering state.old.graph (by_name all.old.entries)) before (named_type_of param.now)) }
 {
     let value = value_type(&param.ty, state, names)?;
     check_param(state.alloc, kind, all, &param.id)?;
@@ -114,9 +114,9 @@ fn take_params(
     requires parts { TypesNamed state.old.graph.types (by_name all.old.entries) }
     ensures ok { OnOk result (ParamSteps state.old.graph state.new.graph (values_of names.now) (by_name all.old.entries)
         (by_name all.new.entries) (map named_type_of params.now)) }
-    ensures err { ErrorSays result (λ e. (naming : Naming)
-        → ParamsBroken kind (scope_of naming state.old.graph (values_of names.now))
-        (types_named naming state.old.graph (by_name all.old.entries)) (map named_type_of params.now) e) }
+    ensures err { ErrorSays result (λ e. (numbering : Numbering)
+        → ParamsBroken kind (scope_of numbering state.old.graph (values_of names.now))
+        (types_named numbering state.old.graph (by_name all.old.entries)) (map named_type_of params.now) e) }
 {
     for param in params {
         take_param(param, state, names, kind, all)?;
@@ -136,9 +136,9 @@ pub fn function(
     requires parts { TypesNamed state.old.graph.types (by_name first.entries) }
     ensures ok { IfOk result (λ f. FuncIs state.old.graph state.new.graph (values_of names.now) (by_name first.entries)
         (func_type_of func.now) f) }
-    ensures err { ErrorSays result (λ e. (naming : Naming)
-        → FuncBroken kind (scope_of naming state.old.graph (values_of names.now))
-        (types_named naming state.old.graph (by_name first.entries)) (func_type_of func.now) e) }
+    ensures err { ErrorSays result (λ e. (numbering : Numbering)
+        → FuncBroken kind (scope_of numbering state.old.graph (values_of names.now))
+        (types_named numbering state.old.graph (by_name first.entries)) (func_type_of func.now) e) }
 {
     let mut params = first;
     take_params(&func.params, state, names, kind, &mut params)?;
@@ -162,8 +162,8 @@ pub fn constructor(
     requires resource { NamesEntry state.old.graph.types (kinds.Ty (types.Resource resource)) }
     ensures ok { IfOk result (λ f. ConstructorIs state.old.graph state.new.graph (values_of names.now) resource
         (map named_type_of params.now) f) }
-    ensures err { ErrorSays result (λ e. (naming : Naming)
-        → ParamsBroken funcs.Constructor (scope_of naming state.old.graph (values_of names.now)) []
+    ensures err { ErrorSays result (λ e. (numbering : Numbering)
+        → ParamsBroken funcs.Constructor (scope_of numbering state.old.graph (values_of names.now)) []
         (map named_type_of params.now) e) }
 {
     let mut all = IndexMap::new(state.alloc);
@@ -186,11 +186,11 @@ pub fn method(
     requires scope { ItemsNamed state.old.graph.types (values_of names.now) }
     requires resource { NamesEntry state.old.graph.types (kinds.Ty (types.Resource resource)) }
     ensures ok { IfOk result (λ f. FuncAdded state.old.graph state.new.graph (values_of names.now)
-        (λ naming scope entry. IsFuncWith scope
-        (first_params is_static (entry_means naming state.old.graph resource.0)) (func_type_of func.now) entry) f) }
-    ensures err { ErrorSays result (λ e. (naming : Naming)
-        → FuncBroken (method_kind is_static) (scope_of naming state.old.graph (values_of names.now))
-        (first_params is_static (entry_means naming state.old.graph resource.0)) (func_type_of func.now) e) }
+        (λ numbering scope entry. IsFuncWith scope
+        (first_params is_static (entry_means numbering state.old.graph resource.0)) (func_type_of func.now) entry) f) }
+    ensures err { ErrorSays result (λ e. (numbering : Numbering)
+        → FuncBroken (method_kind is_static) (scope_of numbering state.old.graph (values_of names.now))
+        (first_params is_static (entry_means numbering state.old.graph resource.0)) (func_type_of func.now) e) }
 {
     let first = method_params(state.alloc, is_static, resource)?;
     function(func, state, names, kind_of_method(is_static), first)

@@ -2,7 +2,7 @@
 ghost use Rattle.std.specs.Prelude.{OnOk};
 ghost use Rattle.wac_ast_grammar.specs.Tree.{ItemTypeDecl as ItemTree};
 ghost use Rattle.wac_ast_types.specs.Declarations.{variant_decl_of, record_decl_of, flags_decl_of, enum_decl_of, type_alias_of, item_type_decl_of};
-ghost use Rattle.wac_graph.specs.Origin.{Naming};
+ghost use Rattle.wac_graph.specs.Origin.{Numbering};
 ghost use Rattle.wac_resolution_rules.specs.BrokenBodies.{ItemBroken};
 ghost use Rattle.wac_resolution_rules.specs.Errors.{ErrorSays};
 ghost use Rattle.wac_resolution_state.specs.Bindings.{places_of};
@@ -30,9 +30,9 @@ fn variant<'a>(
     requires { IsBody state.old.graph.types section.now.side (lists_of body.old) }
     ensures ok { OnOk result (DeclarationStep section.now.side state.old.graph state.new.graph (lists_of body.old)
         (lists_of body.new) (ItemTree.variant (variant_decl_of decl.now))) }
-    ensures err { ErrorSays result (λ e. (naming : Naming)
-        → ItemBroken naming (owner_of section.now.owner) section.now.side (places_of body.old.names)
-        (body_of naming state.old.graph body.old) (ItemTree.variant (variant_decl_of decl.now)) e) }
+    ensures err { ErrorSays result (λ e. (numbering : Numbering)
+        → ItemBroken numbering (owner_of section.now.owner) section.now.side (places_of body.old.names)
+        (body_of numbering state.old.graph body.old) (ItemTree.variant (variant_decl_of decl.now)) e) }
 {
     let value = crate::variant(decl, state, &body.names)?;
     let kind = ItemKind::Ty(Type::Value(value));
@@ -50,9 +50,9 @@ fn record<'a>(
     requires { IsBody state.old.graph.types section.now.side (lists_of body.old) }
     ensures ok { OnOk result (DeclarationStep section.now.side state.old.graph state.new.graph (lists_of body.old)
         (lists_of body.new) (ItemTree.record_decl (record_decl_of decl.now))) }
-    ensures err { ErrorSays result (λ e. (naming : Naming)
-        → ItemBroken naming (owner_of section.now.owner) section.now.side (places_of body.old.names)
-        (body_of naming state.old.graph body.old) (ItemTree.record_decl (record_decl_of decl.now)) e) }
+    ensures err { ErrorSays result (λ e. (numbering : Numbering)
+        → ItemBroken numbering (owner_of section.now.owner) section.now.side (places_of body.old.names)
+        (body_of numbering state.old.graph body.old) (ItemTree.record_decl (record_decl_of decl.now)) e) }
 {
     let value = crate::record(decl, state, &body.names)?;
     let kind = ItemKind::Ty(Type::Value(value));
@@ -70,9 +70,9 @@ fn flags<'a>(
     requires { IsBody state.old.graph.types section.now.side (lists_of body.old) }
     ensures ok { OnOk result (DeclarationStep section.now.side state.old.graph state.new.graph (lists_of body.old)
         (lists_of body.new) (ItemTree.flags (flags_decl_of decl.now))) }
-    ensures err { ErrorSays result (λ e. (naming : Naming)
-        → ItemBroken naming (owner_of section.now.owner) section.now.side (places_of body.old.names)
-        (body_of naming state.old.graph body.old) (ItemTree.flags (flags_decl_of decl.now)) e) }
+    ensures err { ErrorSays result (λ e. (numbering : Numbering)
+        → ItemBroken numbering (owner_of section.now.owner) section.now.side (places_of body.old.names)
+        (body_of numbering state.old.graph body.old) (ItemTree.flags (flags_decl_of decl.now)) e) }
 {
     let value = crate::flags(state, decl)?;
     let kind = ItemKind::Ty(Type::Value(value));
@@ -90,9 +90,9 @@ fn enumeration<'a>(
     requires { IsBody state.old.graph.types section.now.side (lists_of body.old) }
     ensures ok { OnOk result (DeclarationStep section.now.side state.old.graph state.new.graph (lists_of body.old)
         (lists_of body.new) (ItemTree.enum (enum_decl_of decl.now))) }
-    ensures err { ErrorSays result (λ e. (naming : Naming)
-        → ItemBroken naming (owner_of section.now.owner) section.now.side (places_of body.old.names)
-        (body_of naming state.old.graph body.old) (ItemTree.enum (enum_decl_of decl.now)) e) }
+    ensures err { ErrorSays result (λ e. (numbering : Numbering)
+        → ItemBroken numbering (owner_of section.now.owner) section.now.side (places_of body.old.names)
+        (body_of numbering state.old.graph body.old) (ItemTree.enum (enum_decl_of decl.now)) e) }
 {
     let value = crate::enumeration(state, decl)?;
     let kind = ItemKind::Ty(Type::Value(value));
@@ -110,9 +110,9 @@ fn alias<'a>(
     requires { IsBody state.old.graph.types section.now.side (lists_of body.old) }
     ensures ok { OnOk result (DeclarationStep section.now.side state.old.graph state.new.graph (lists_of body.old)
         (lists_of body.new) (ItemTree.alias (type_alias_of decl.now))) }
-    ensures err { ErrorSays result (λ e. (naming : Naming)
-        → ItemBroken naming (owner_of section.now.owner) section.now.side (places_of body.old.names)
-        (body_of naming state.old.graph body.old) (ItemTree.alias (type_alias_of decl.now)) e) }
+    ensures err { ErrorSays result (λ e. (numbering : Numbering)
+        → ItemBroken numbering (owner_of section.now.owner) section.now.side (places_of body.old.names)
+        (body_of numbering state.old.graph body.old) (ItemTree.alias (type_alias_of decl.now)) e) }
 {
     let kind = crate::alias(&decl.kind, state, &body.names, Place::Body, decl.id.string)?;
     declare(state.alloc, body, section, &decl.id, kind)?;
@@ -129,9 +129,9 @@ pub fn item<'a>(
     requires { IsBody state.old.graph.types section.now.side (lists_of body.old) }
     ensures ok { OnOk result (DeclarationStep section.now.side state.old.graph state.new.graph (lists_of body.old)
         (lists_of body.new) (item_type_decl_of decl.now)) }
-    ensures err { ErrorSays result (λ e. (naming : Naming)
-        → ItemBroken naming (owner_of section.now.owner) section.now.side (places_of body.old.names)
-        (body_of naming state.old.graph body.old) (item_type_decl_of decl.now) e) }
+    ensures err { ErrorSays result (λ e. (numbering : Numbering)
+        → ItemBroken numbering (owner_of section.now.owner) section.now.side (places_of body.old.names)
+        (body_of numbering state.old.graph body.old) (item_type_decl_of decl.now) e) }
 {
     match decl {
         ItemTypeDecl::Resource(decl) => resource(decl, state, body, section),

@@ -72,7 +72,7 @@ fn check_enum_case(
 }
 
 /// Takes a flag.
-#[tactic(auto, using(wac_resolution_state::proofs::Scopes::memory_told))]
+#[tactic(auto, using(wac_resolution_state::proofs::Scopes::memory_model))]
 fn flag(
     alloc: Global,
     declared: &Ident<'_>,
@@ -89,7 +89,7 @@ fn flag(
 }
 
 /// Takes a case.
-#[tactic(auto, using(wac_resolution_state::proofs::Scopes::memory_told))]
+#[tactic(auto, using(wac_resolution_state::proofs::Scopes::memory_model))]
 fn enum_case(
     alloc: Global,
     declared: &Ident<'_>,
@@ -147,7 +147,7 @@ fn enum_cases(
 /// Adds a type of flags.
 pub fn flags(state: &mut State, decl: &FlagsDecl<'_>) -> Result<ValueType, Error>
     ensures ok { IfOk result (λ v. ValueAdded state.old.graph state.new.graph
-        (λ naming m. IsFlags (flags_decl_of decl.now) m) v) }
+        (λ numbering m. IsFlags (flags_decl_of decl.now) m) v) }
     ensures err { ErrorSays result (λ e. FlagsBroken (flags_decl_of decl.now) e) }
 {
     let mut all = IndexSet::new(state.alloc);
@@ -158,7 +158,7 @@ pub fn flags(state: &mut State, decl: &FlagsDecl<'_>) -> Result<ValueType, Error
 /// Adds an enum.
 pub fn enumeration(state: &mut State, decl: &EnumDecl<'_>) -> Result<ValueType, Error>
     ensures ok { IfOk result (λ v. ValueAdded state.old.graph state.new.graph
-        (λ naming m. IsEnum (enum_decl_of decl.now) m) v) }
+        (λ numbering m. IsEnum (enum_decl_of decl.now) m) v) }
     ensures err { ErrorSays result (λ e. EnumBroken (enum_decl_of decl.now) e) }
 {
     let mut all = IndexSet::new(state.alloc);

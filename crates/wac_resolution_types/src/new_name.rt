@@ -3,8 +3,8 @@ ghost use Rattle.std.specs.Prelude.{◌≡◌, IfOk, OnOk, option_map, string_by
 ghost use Rattle.wac_graph_types.specs.Scope.{IsFresh};
 ghost use Rattle.wac_ast_base.specs.Names.{ident_of};
 ghost use Rattle.wac_graph.specs.Graph.{Parts};
-ghost use Rattle.wac_graph.specs.Origin.{Naming};
-ghost use Rattle.wac_resolution_errors.specs.Told.{told};
+ghost use Rattle.wac_graph.specs.Origin.{Numbering};
+ghost use Rattle.wac_resolution_errors.specs.ErrorModel.{error_model};
 ghost use Rattle.wac_resolution_rules.specs.BrokenBodies.{IsBoundInBody, IsConflict, NameBroken, conflict as conflict_of};
 ghost use Rattle.wac_resolution_rules.specs.Errors.{ErrorSays};
 ghost use Rattle.wac_resolution_state.specs.Bindings.{values_of, places_of};
@@ -26,8 +26,8 @@ use wac_resolution_state::Names;
 /// Rejects an identifier that is bound already.
 pub fn check_name(alloc: Global, names: &Names<'_, ItemKind>, id: &Ident<'_>) -> Result<(), Error>
     ensures ok { OnOk result (IsFresh id.now.string.now (values_of names.now)) }
-    ensures err { ErrorSays result (λ e. (naming : Naming) (g : Parts)
-        → IsBoundInBody (places_of names.now) (scope_of naming g (values_of names.now)) (ident_of id.now) e) }
+    ensures err { ErrorSays result (λ e. (numbering : Numbering) (g : Parts)
+        → IsBoundInBody (places_of names.now) (scope_of numbering g (values_of names.now)) (ident_of id.now) e) }
 {
     match names.place(id.string) {
         Some(previous) => Err(Error::DuplicateName {
@@ -56,7 +56,8 @@ fn conflict(
     name: &str,
     span: SourceSpan,
 ) -> Result<Error, AllocError>
-    ensures { IfOk result (λ e. told e ≡ conflict_of (owner_of section.now.owner) section.now.side name.now span) }
+    ensures { IfOk result (λ e. error_model e ≡ conflict_of (owner_of section.now.owner) section.now.side
+        name.now span) }
 {
     match &section.owner {
         Owner::Interface(interface) => Ok(Error::DuplicateInterfaceExport {
@@ -82,8 +83,8 @@ pub fn check_extern(
     span: SourceSpan,
 ) -> Result<(), Error>
     ensures ok { OnOk result (IsFresh name.now (kinds_of section.now.side (lists_of body.now))) }
-    ensures err { ErrorSays result (λ e. (naming : Naming) (g : Parts)
-        → IsConflict (owner_of section.now.owner) section.now.side (body_of naming g body.now) name.now span e) }
+    ensures err { ErrorSays result (λ e. (numbering : Numbering) (g : Parts)
+        → IsConflict (owner_of section.now.owner) section.now.side (body_of numbering g body.now) name.now span e) }
 {
     match body.find(section.side, name) {
         Some(_) => Err(conflict(alloc, section, name, span)?),
@@ -101,9 +102,9 @@ pub fn declare<'a>(
 ) -> Result<(), Error>
     ensures ok { OnOk result (IsDeclared section.now.side (lists_of body.old) (lists_of body.new)
         (ident_of id.now) kind) }
-    ensures err { ErrorSays result (λ e. (naming : Naming) (g : Parts)
+    ensures err { ErrorSays result (λ e. (numbering : Numbering) (g : Parts)
         → NameBroken (owner_of section.now.owner) section.now.side (places_of body.old.names)
-        (body_of naming g body.old) (ident_of id.now) e) }
+        (body_of numbering g body.old) (ident_of id.now) e) }
 {
     check_name(alloc, &body.names, id)?;
     check_extern(alloc, body, section, id.string, id.span)?;

@@ -8,7 +8,7 @@ ghost use Rattle.wac_graph_types.specs.Table.{ItemsNamed};
 ghost use Rattle.wac_ast_base.specs.Names.{ident_of};
 ghost use Rattle.wac_ast_types.specs.Declarations.{field_of, record_decl_of};
 ghost use Rattle.wac_graph.specs.Graph.{Parts};
-ghost use Rattle.wac_graph.specs.Origin.{Naming};
+ghost use Rattle.wac_graph.specs.Origin.{Numbering};
 ghost use Rattle.wac_resolution_errors.specs.Error.{duplicate_record_field};
 ghost use Rattle.wac_resolution_rules.specs.Declarations.{HasField, IsRecord};
 ghost use Rattle.wac_resolution_rules.specs.BrokenDeclarations.{IsRepeatedPart, FieldBroken, RecordBroken};
@@ -29,7 +29,7 @@ use wac_resolution_errors::Error;
 use wac_resolution_state::{Names, State};
 
 /// Rejects the name of an earlier field.
-#[tactic(auto, using(wac_resolution_state::proofs::Scopes::memory_told))]
+#[tactic(auto, using(wac_resolution_state::proofs::Scopes::memory_model))]
 fn check_field(
     alloc: Global,
     declared: &Ident<'_>,
@@ -37,9 +37,9 @@ fn check_field(
     id: &Ident<'_>,
 ) -> Result<(), Error>
     ensures ok { OnOk result (IsFresh id.now.string.now (by_name all.now.entries)) }
-    ensures err { ErrorSays result (λ e. (naming : Naming) (g : Parts)
+    ensures err { ErrorSays result (λ e. (numbering : Numbering) (g : Parts)
         → IsRepeatedPart duplicate_record_field (ident_of declared.now)
-        (types_named naming g (by_name all.now.entries)) (ident_of id.now) e) }
+        (types_named numbering g (by_name all.now.entries)) (ident_of id.now) e) }
 {
     match find(all, id.string) {
         Some(_) => Err(Error::DuplicateRecordField {
@@ -63,9 +63,9 @@ fn take_field(
     requires parts { TypesNamed state.old.graph.types (by_name all.old.entries) }
     ensures ok { OnOk result (FieldStep state.old.graph state.new.graph (values_of names.now) (by_name all.old.entries)
         (by_name all.new.entries) (field_of field.now)) }
-    ensures err { ErrorSays result (λ e. (naming : Naming) (before : List FieldTree)
-        → FieldBroken (scope_of naming state.old.graph (values_of names.now)) (ident_of declared.now) e
-        (types_named naming state.old.graph (by_name all.old.entries)) before (field_of field.now)) }
+    ensures err { ErrorSays result (λ e. (numbering : Numbering) (before : List FieldTree)
+        → FieldBroken (scope_of numbering state.old.graph (values_of names.now)) (ident_of declared.now) e
+        (types_named numbering state.old.graph (by_name all.old.entries)) before (field_of field.now)) }
 {
     let value = value_type(&field.ty, state, names)?;
     check_field(state.alloc, declared, all, &field.id)?;
@@ -85,10 +85,10 @@ fn take_fields(
     requires parts { TypesNamed state.old.graph.types (by_name all.old.entries) }
     ensures ok { OnOk result (FieldSteps state.old.graph state.new.graph (values_of names.now) (by_name all.old.entries)
         (by_name all.new.entries) (map field_of fields.now)) }
-    ensures err { ErrorSays result (λ e. (naming : Naming)
-        → Fails (HasField (scope_of naming state.old.graph (values_of names.now)))
-        (FieldBroken (scope_of naming state.old.graph (values_of names.now)) (ident_of declared.now) e)
-        (types_named naming state.old.graph (by_name all.old.entries)) (map field_of fields.now)) }
+    ensures err { ErrorSays result (λ e. (numbering : Numbering)
+        → Fails (HasField (scope_of numbering state.old.graph (values_of names.now)))
+        (FieldBroken (scope_of numbering state.old.graph (values_of names.now)) (ident_of declared.now) e)
+        (types_named numbering state.old.graph (by_name all.old.entries)) (map field_of fields.now)) }
 {
     for field in fields {
         take_field(field, state, names, declared, all)?;
@@ -104,10 +104,10 @@ pub fn record(
 ) -> Result<ValueType, Error>
     requires { ItemsNamed state.old.graph.types (values_of names.now) }
     ensures ok { IfOk result (λ v. ValueAdded state.old.graph state.new.graph
-        (λ naming m. IsRecord (scope_of naming state.old.graph (values_of names.now))
+        (λ numbering m. IsRecord (scope_of numbering state.old.graph (values_of names.now))
         (record_decl_of decl.now) m) v) }
-    ensures err { ErrorSays result (λ e. (naming : Naming)
-        → RecordBroken (scope_of naming state.old.graph (values_of names.now)) (record_decl_of decl.now) e) }
+    ensures err { ErrorSays result (λ e. (numbering : Numbering)
+        → RecordBroken (scope_of numbering state.old.graph (values_of names.now)) (record_decl_of decl.now) e) }
 {
     let mut fields = IndexMap::new(state.alloc);
     take_fields(&decl.fields, state, names, &decl.id, &mut fields)?;

@@ -4,7 +4,7 @@ ghost use Rattle.wac_ast_grammar.specs.Tree.{ItemTypeDecl as ItemTree};
 ghost use Rattle.wac_ast_base.specs.Names.{ident_of};
 ghost use Rattle.wac_ast_types.specs.Declarations.{resource_decl_of};
 ghost use Rattle.wac_graph.specs.Graph.{Parts};
-ghost use Rattle.wac_graph.specs.Origin.{Naming};
+ghost use Rattle.wac_graph.specs.Origin.{Numbering};
 ghost use Rattle.wac_resolution_rules.specs.BrokenBodies.{NameBroken, ItemBroken};
 ghost use Rattle.wac_resolution_rules.specs.Errors.{ErrorSays};
 ghost use Rattle.wac_resolution_state.specs.Bindings.{places_of};
@@ -32,9 +32,9 @@ fn declare_resource<'a>(
     requires { IsBody state.old.graph.types section.now.side (lists_of body.old) }
     ensures ok { IfOk result (λ r. ResourceStep section.now.side state.old.graph state.new.graph
         (lists_of body.old) (lists_of body.new) (ident_of id.now) r) }
-    ensures err { ErrorSays result (λ e. (naming : Naming) (g : Parts)
+    ensures err { ErrorSays result (λ e. (numbering : Numbering) (g : Parts)
         → NameBroken (owner_of section.now.owner) section.now.side (places_of body.old.names)
-        (body_of naming g body.old) (ident_of id.now) e) }
+        (body_of numbering g body.old) (ident_of id.now) e) }
 {
     check_name(state.alloc, &body.names, id)?;
     check_extern(state.alloc, body, section, id.string, id.span)?;
@@ -58,9 +58,9 @@ pub fn resource<'a>(
     requires { IsBody state.old.graph.types section.now.side (lists_of body.old) }
     ensures ok { OnOk result (DeclarationStep section.now.side state.old.graph state.new.graph (lists_of body.old)
         (lists_of body.new) (ItemTree.resource (resource_decl_of decl.now))) }
-    ensures err { ErrorSays result (λ e. (naming : Naming)
-        → ItemBroken naming (owner_of section.now.owner) section.now.side (places_of body.old.names)
-        (body_of naming state.old.graph body.old) (ItemTree.resource (resource_decl_of decl.now)) e) }
+    ensures err { ErrorSays result (λ e. (numbering : Numbering)
+        → ItemBroken numbering (owner_of section.now.owner) section.now.side (places_of body.old.names)
+        (body_of numbering state.old.graph body.old) (ItemTree.resource (resource_decl_of decl.now)) e) }
 {
     let id = declare_resource(state, body, section, &decl.id)?;
     let resource = NewResource {

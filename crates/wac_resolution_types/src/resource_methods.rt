@@ -10,9 +10,9 @@ ghost use Rattle.wac_ast_base.specs.Names.{ident_of};
 ghost use Rattle.wac_ast_types.specs.Declarations.{constructor_of, method_of, resource_method_of};
 ghost use Rattle.wac_graph.specs.Graph.{Parts};
 ghost use Rattle.wac_graph.specs.Means.{entry_means};
-ghost use Rattle.wac_graph.specs.Origin.{Naming};
+ghost use Rattle.wac_graph.specs.Origin.{Numbering};
 ghost use Rattle.wac_resolution_errors.specs.Error.{duplicate_resource_constructor, duplicate_resource_method};
-ghost use Rattle.wac_resolution_errors.specs.Told.{told};
+ghost use Rattle.wac_resolution_errors.specs.ErrorModel.{error_model};
 ghost use Rattle.wac_resolution_rules.specs.Bodies.{constructor_name as named_constructor, externs, method_name as named_method, static_name as named_static, name_of_method, HasMethod};
 ghost use Rattle.wac_resolution_rules.specs.BrokenTypes.{IsRepeated};
 ghost use Rattle.wac_resolution_rules.specs.BrokenBodies.{IsSecondMethod, MethodBroken};
@@ -49,8 +49,8 @@ fn new_constructor_name(
 ) -> Result<String, Error>
     ensures name { IfOk result (λ n. string_bytes n ≡ named_constructor resource.now) }
     ensures ok { IfOk result (λ n. IsFresh (named_constructor resource.now) (kinds_of side (lists_of body.now))) }
-    ensures err { ErrorSays result (λ e. (naming : Naming) (g : Parts)
-        → IsRepeated (externs side (body_of naming g body.now)) (named_constructor resource.now)
+    ensures err { ErrorSays result (λ e. (numbering : Numbering) (g : Parts)
+        → IsRepeated (externs side (body_of numbering g body.now)) (named_constructor resource.now)
         (duplicate_resource_constructor resource.now span) e) }
 {
     let name = constructor_name(alloc, resource)?;
@@ -65,7 +65,7 @@ fn new_constructor_name(
 
 /// The error of a method of a resource that has one of its name already.
 fn second_method(alloc: Global, resource: &str, id: &Ident<'_>) -> Result<Error, AllocError>
-    ensures { IfOk result (λ e. told e ≡ duplicate_resource_method id.now.string.now resource.now id.now.span) }
+    ensures { IfOk result (λ e. error_model e ≡ duplicate_resource_method id.now.string.now resource.now id.now.span) }
 {
     Ok(Error::DuplicateResourceMethod {
         name: String::from_str(alloc, id.string)?,
@@ -88,8 +88,8 @@ fn new_method_name(
         (kinds_of side (lists_of body.now))) }
     ensures fixed { IfOk result (λ n. IsFresh (named_static resource.now method.now.id.string.now)
         (kinds_of side (lists_of body.now))) }
-    ensures err { ErrorSays result (λ e. (naming : Naming) (g : Parts)
-        → IsSecondMethod side resource.now (body_of naming g body.now) (ident_of method.now.id) e) }
+    ensures err { ErrorSays result (λ e. (numbering : Numbering) (g : Parts)
+        → IsSecondMethod side resource.now (body_of numbering g body.now) (ident_of method.now.id) e) }
 {
     let full = method_name(alloc, resource, method.id.string)?;
     if body.find(side, &full).is_some() {
@@ -118,9 +118,9 @@ fn add_constructor(
     requires resource { NamesEntry state.old.graph.types (kinds.Ty (types.Resource resource.now.id)) }
     ensures ok { OnOk result (MethodStep side state.old.graph state.new.graph resource.now.name.now resource.now.id
         (lists_of body.old) (lists_of body.new) (MethodTree.constructor (constructor_of constructor.now))) }
-    ensures err { ErrorSays result (λ e. (naming : Naming) (before : List MethodTree)
-        → MethodBroken side resource.now.name.now (entry_means naming state.old.graph resource.now.id.0) e
-        (body_of naming state.old.graph body.old) before
+    ensures err { ErrorSays result (λ e. (numbering : Numbering) (before : List MethodTree)
+        → MethodBroken side resource.now.name.now (entry_means numbering state.old.graph resource.now.id.0) e
+        (body_of numbering state.old.graph body.old) before
         (MethodTree.constructor (constructor_of constructor.now))) }
 {
     let full = new_constructor_name(state.alloc, body, side, resource.name, constructor.span)?;
@@ -141,9 +141,9 @@ fn add_method(
     requires resource { NamesEntry state.old.graph.types (kinds.Ty (types.Resource resource.now.id)) }
     ensures ok { OnOk result (MethodStep side state.old.graph state.new.graph resource.now.name.now resource.now.id
         (lists_of body.old) (lists_of body.new) (MethodTree.method (method_of method.now))) }
-    ensures err { ErrorSays result (λ e. (naming : Naming) (before : List MethodTree)
-        → MethodBroken side resource.now.name.now (entry_means naming state.old.graph resource.now.id.0) e
-        (body_of naming state.old.graph body.old) before (MethodTree.method (method_of method.now))) }
+    ensures err { ErrorSays result (λ e. (numbering : Numbering) (before : List MethodTree)
+        → MethodBroken side resource.now.name.now (entry_means numbering state.old.graph resource.now.id.0) e
+        (body_of numbering state.old.graph body.old) before (MethodTree.method (method_of method.now))) }
 {
     let full = new_method_name(method, state.alloc, body, side, resource.name)?;
     let func = crate::method(
@@ -169,9 +169,9 @@ fn add_either(
     requires resource { NamesEntry state.old.graph.types (kinds.Ty (types.Resource resource.now.id)) }
     ensures ok { OnOk result (MethodStep side state.old.graph state.new.graph resource.now.name.now resource.now.id
         (lists_of body.old) (lists_of body.new) (resource_method_of method.now)) }
-    ensures err { ErrorSays result (λ e. (naming : Naming) (before : List MethodTree)
-        → MethodBroken side resource.now.name.now (entry_means naming state.old.graph resource.now.id.0) e
-        (body_of naming state.old.graph body.old) before (resource_method_of method.now)) }
+    ensures err { ErrorSays result (λ e. (numbering : Numbering) (before : List MethodTree)
+        → MethodBroken side resource.now.name.now (entry_means numbering state.old.graph resource.now.id.0) e
+        (body_of numbering state.old.graph body.old) before (resource_method_of method.now)) }
 {
     match method {
         ResourceMethod::Constructor(constructor) => {
@@ -193,10 +193,10 @@ pub(crate) fn add_methods(
     requires resource { NamesEntry state.old.graph.types (kinds.Ty (types.Resource resource.now.id)) }
     ensures ok { OnOk result (MethodSteps side state.old.graph state.new.graph resource.now.name.now resource.now.id
         (lists_of body.old) (lists_of body.new) (map resource_method_of methods.now)) }
-    ensures err { ErrorSays result (λ e. (naming : Naming)
-        → Fails (HasMethod side resource.now.name.now (entry_means naming state.old.graph resource.now.id.0))
-        (MethodBroken side resource.now.name.now (entry_means naming state.old.graph resource.now.id.0) e)
-        (body_of naming state.old.graph body.old) (map resource_method_of methods.now)) }
+    ensures err { ErrorSays result (λ e. (numbering : Numbering)
+        → Fails (HasMethod side resource.now.name.now (entry_means numbering state.old.graph resource.now.id.0))
+        (MethodBroken side resource.now.name.now (entry_means numbering state.old.graph resource.now.id.0) e)
+        (body_of numbering state.old.graph body.old) (map resource_method_of methods.now)) }
 {
     for method in methods {
         add_either(method, state, body, side, resource)?;

@@ -13,9 +13,9 @@ ghost use Rattle.wac_ast_types.specs.Types.{ty_of};
 ghost use Rattle.wac_ast_types.specs.Declarations.{named_type_of, result_list_of};
 ghost use Rattle.wac_graph.specs.Graph.{Parts};
 ghost use Rattle.wac_graph.specs.Means.{means};
-ghost use Rattle.wac_graph.specs.Origin.{Naming};
+ghost use Rattle.wac_graph.specs.Origin.{Numbering};
 ghost use Rattle.wac_resolution_errors.specs.Error.{borrow_in_result, duplicate_result};
-ghost use Rattle.wac_resolution_errors.specs.Told.{told};
+ghost use Rattle.wac_resolution_errors.specs.ErrorModel.{error_model};
 ghost use Rattle.wac_resolution_rules.specs.Types.{HasResult};
 ghost use Rattle.wac_resolution_rules.specs.BrokenTypes.{IsRepeated, ResultTypeBroken, ResultBroken, ResultsBroken};
 ghost use Rattle.wac_resolution_rules.specs.Errors.{ErrorSays};
@@ -34,7 +34,7 @@ use wac_resolution_errors::Error;
 use wac_resolution_state::{Names, State};
 
 /// Rejects the name of an earlier result.
-#[tactic(auto, using(wac_resolution_state::proofs::Scopes::memory_told))]
+#[tactic(auto, using(wac_resolution_state::proofs::Scopes::memory_model))]
 fn check_result_name(
     alloc: Global,
     kind: FuncKind,
@@ -42,8 +42,8 @@ fn check_result_name(
     id: &Ident<'_>,
 ) -> Result<(), Error>
     ensures ok { OnOk result (IsFresh id.now.string.now (by_name all.now.entries)) }
-    ensures err { ErrorSays result (λ e. (naming : Naming) (g : Parts)
-        → IsRepeated (types_named naming g (by_name all.now.entries)) (ident_of id.now).string
+    ensures err { ErrorSays result (λ e. (numbering : Numbering) (g : Parts)
+        → IsRepeated (types_named numbering g (by_name all.now.entries)) (ident_of id.now).string
         (duplicate_result kind (ident_of id.now).string (ident_of id.now).span) e) }
 {
     match find(all, id.string) {
@@ -59,11 +59,11 @@ fn check_result_name(
 /// Rejects a result that contains a borrow.
 fn check_result(ty: &Type<'_>, state: &State, value: ValueType) -> Result<(), Error>
     requires { NamesEntry state.now.graph.types (kinds.Value value) }
-    ensures ok { OnOk result ((naming : Naming)
-        → has_borrow (means naming state.now.graph (kinds.Value value)) ≡ false) }
-    ensures borrow { IfErr result (λ e. (naming : Naming)
-        → has_borrow (means naming state.now.graph (kinds.Value value)) ≡ true) }
-    ensures err { IfErr result (λ e. told e ≡ borrow_in_result (ty_span (ty_of ty.now))) }
+    ensures ok { OnOk result ((numbering : Numbering)
+        → has_borrow (means numbering state.now.graph (kinds.Value value)) ≡ false) }
+    ensures borrow { IfErr result (λ e. (numbering : Numbering)
+        → has_borrow (means numbering state.now.graph (kinds.Value value)) ≡ true) }
+    ensures err { IfErr result (λ e. error_model e ≡ borrow_in_result (ty_span (ty_of ty.now))) }
 {
     if state.graph.types().contains_borrow(value) {
         return Err(Error::BorrowInResult { span: ty.span() });
@@ -80,8 +80,8 @@ fn result_type(
     requires { ItemsNamed state.old.graph.types (values_of names.now) }
     ensures ok { IfOk result (λ v. ResultTypeIs state.old.graph state.new.graph
         (values_of names.now) (ty_of ty.now) v) }
-    ensures err { ErrorSays result (λ e. (naming : Naming)
-        → ResultTypeBroken (scope_of naming state.old.graph (values_of names.now)) (ty_of ty.now) e) }
+    ensures err { ErrorSays result (λ e. (numbering : Numbering)
+        → ResultTypeBroken (scope_of numbering state.old.graph (values_of names.now)) (ty_of ty.now) e) }
 {
     let value = value_type(ty, state, names)?;
     check_result(ty, state, value)?;
@@ -100,9 +100,9 @@ fn named_result(
     requires parts { TypesNamed state.old.graph.types (by_name all.old.entries) }
     ensures ok { OnOk result (ResultStep state.old.graph state.new.graph (values_of names.now) (by_name all.old.entries)
         (by_name all.new.entries) (named_type_of named.now)) }
-    ensures err { ErrorSays result (λ e. (naming : Naming) (before : List ResultTree)
-        → ResultBroken kind (scope_of naming state.old.graph (values_of names.now)) e
-        (types_named naming state.old.graph (by_name all.old.entries)) before (named_type_of named.now)) }
+    ensures err { ErrorSays result (λ e. (numbering : Numbering) (before : List ResultTree)
+        → ResultBroken kind (scope_of numbering state.old.graph (values_of names.now)) e
+        (types_named numbering state.old.graph (by_name all.old.entries)) before (named_type_of named.now)) }
 {
     let value = result_type(&named.ty, state, names)?;
     check_result_name(state.alloc, kind, all, &named.id)?;
@@ -120,8 +120,8 @@ fn named_results(
     requires { ItemsNamed state.old.graph.types (values_of names.now) }
     ensures ok { IfOk result (λ all. ResultSteps state.old.graph state.new.graph (values_of names.now) []
         (by_name all.entries) (map named_type_of named.now)) }
-    ensures err { ErrorSays result (λ e. (naming : Naming)
-        → let scope = scope_of naming state.old.graph (values_of names.now) in Fails (HasResult scope)
+    ensures err { ErrorSays result (λ e. (numbering : Numbering)
+        → let scope = scope_of numbering state.old.graph (values_of names.now) in Fails (HasResult scope)
         (ResultBroken kind scope e) [] (map named_type_of named.now)) }
 {
     let mut all = IndexMap::new(state.alloc);
@@ -141,8 +141,9 @@ pub(crate) fn results(
     requires { ItemsNamed state.old.graph.types (values_of names.now) }
     ensures ok { IfOk result (λ rs. ResultsAre state.old.graph state.new.graph (values_of names.now)
         (result_list_of results.now) rs) }
-    ensures err { ErrorSays result (λ e. (naming : Naming)
-        → ResultsBroken kind (scope_of naming state.old.graph (values_of names.now)) (result_list_of results.now) e) }
+    ensures err { ErrorSays result (λ e. (numbering : Numbering)
+        → ResultsBroken kind (scope_of numbering state.old.graph (values_of names.now))
+        (result_list_of results.now) e) }
 {
     match results {
         ResultList::Empty => Ok(FuncResults::None),

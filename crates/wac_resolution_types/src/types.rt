@@ -3,7 +3,7 @@ ghost use Rattle.std.specs.Prelude.{IfOk, map};
 ghost use Rattle.wac_ast_grammar.specs.Tree.{types_from};
 ghost use Rattle.wac_graph_types.specs.Table.{ItemsNamed};
 ghost use Rattle.wac_ast_types.specs.Types.{ty_of, optional_of};
-ghost use Rattle.wac_graph.specs.Origin.{Naming};
+ghost use Rattle.wac_graph.specs.Origin.{Numbering};
 ghost use Rattle.wac_resolution_rules.specs.BrokenTypes.{TypeBroken, OptionalBroken, TypesBroken};
 ghost use Rattle.wac_resolution_rules.specs.Errors.{ErrorSays};
 ghost use Rattle.wac_resolution_state.specs.Bindings.{values_of};
@@ -24,8 +24,8 @@ pub fn value_type(
 ) -> Result<ValueType, Error>
     requires { ItemsNamed state.old.graph.types (values_of names.now) }
     ensures ok { IfOk result (λ v. TypeIs state.old.graph state.new.graph (values_of names.now) (ty_of ty.now) v) }
-    ensures err { ErrorSays result (λ e. (naming : Naming)
-        → TypeBroken (scope_of naming state.old.graph (values_of names.now)) (ty_of ty.now) e) }
+    ensures err { ErrorSays result (λ e. (numbering : Numbering)
+        → TypeBroken (scope_of numbering state.old.graph (values_of names.now)) (ty_of ty.now) e) }
 {
     match ty {
         Type::U8(_) => Ok(ValueType::Primitive(PrimitiveType::U8)),
@@ -82,8 +82,8 @@ fn optional(
     requires { ItemsNamed state.old.graph.types (values_of names.now) }
     ensures ok { IfOk result (λ v. OptionalIs state.old.graph state.new.graph (values_of names.now)
         (optional_of ty.now) v) }
-    ensures err { ErrorSays result (λ e. (naming : Naming)
-        → OptionalBroken (scope_of naming state.old.graph (values_of names.now)) (optional_of ty.now) e) }
+    ensures err { ErrorSays result (λ e. (numbering : Numbering)
+        → OptionalBroken (scope_of numbering state.old.graph (values_of names.now)) (optional_of ty.now) e) }
 {
     match ty {
         Some(ty) => Ok(Some(value_type(ty, state, names)?)),
@@ -101,8 +101,8 @@ fn value_types(
     requires { ItemsNamed state.old.graph.types (values_of names.now) }
     ensures ok { IfOk result (λ vs. TypesAre state.old.graph state.new.graph (values_of names.now)
         (types_from (map ty_of types.now)) vs.items) }
-    ensures err { ErrorSays result (λ e. (naming : Naming)
-        → TypesBroken (scope_of naming state.old.graph (values_of names.now)) (types_from (map ty_of types.now)) e) }
+    ensures err { ErrorSays result (λ e. (numbering : Numbering)
+        → TypesBroken (scope_of numbering state.old.graph (values_of names.now)) (types_from (map ty_of types.now)) e) }
 {
     let mut values = Vec::new(state.alloc);
     for ty in types {

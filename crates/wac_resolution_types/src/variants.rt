@@ -8,7 +8,7 @@ ghost use Rattle.wac_ast_base.specs.Names.{ident_of};
 ghost use Rattle.wac_ast_types.specs.Types.{ty_of};
 ghost use Rattle.wac_ast_types.specs.Declarations.{variant_case_of, variant_decl_of};
 ghost use Rattle.wac_graph.specs.Graph.{Parts};
-ghost use Rattle.wac_graph.specs.Origin.{Naming};
+ghost use Rattle.wac_graph.specs.Origin.{Numbering};
 ghost use Rattle.wac_resolution_errors.specs.Error.{duplicate_variant_case};
 ghost use Rattle.wac_resolution_rules.specs.Declarations.{HasCase, IsVariant};
 ghost use Rattle.wac_resolution_rules.specs.BrokenDeclarations.{IsRepeatedPart, OptionBroken, CaseBroken, VariantBroken};
@@ -30,7 +30,7 @@ use wac_resolution_errors::Error;
 use wac_resolution_state::{Names, State};
 
 /// Rejects the name of an earlier case.
-#[tactic(auto, using(wac_resolution_state::proofs::Scopes::memory_told))]
+#[tactic(auto, using(wac_resolution_state::proofs::Scopes::memory_model))]
 fn check_case(
     alloc: Global,
     declared: &Ident<'_>,
@@ -38,9 +38,9 @@ fn check_case(
     id: &Ident<'_>,
 ) -> Result<(), Error>
     ensures ok { OnOk result (IsFresh id.now.string.now (by_name all.now.entries)) }
-    ensures err { ErrorSays result (λ e. (naming : Naming) (g : Parts)
+    ensures err { ErrorSays result (λ e. (numbering : Numbering) (g : Parts)
         → IsRepeatedPart duplicate_variant_case (ident_of declared.now)
-        (cases_named naming g (by_name all.now.entries)) (ident_of id.now) e) }
+        (cases_named numbering g (by_name all.now.entries)) (ident_of id.now) e) }
 {
     match find(all, id.string) {
         Some(_) => Err(Error::DuplicateVariantCase {
@@ -61,8 +61,8 @@ fn case_type(
     requires { ItemsNamed state.old.graph.types (values_of names.now) }
     ensures ok { IfOk result (λ v. CaseTypeIs state.old.graph state.new.graph (values_of names.now)
         (option_map ty_of ty.now) v) }
-    ensures err { ErrorSays result (λ e. (naming : Naming)
-        → OptionBroken (scope_of naming state.old.graph (values_of names.now)) (option_map ty_of ty.now) e) }
+    ensures err { ErrorSays result (λ e. (numbering : Numbering)
+        → OptionBroken (scope_of numbering state.old.graph (values_of names.now)) (option_map ty_of ty.now) e) }
 {
     match ty {
         Some(ty) => Ok(Some(value_type(ty, state, names)?)),
@@ -82,9 +82,9 @@ fn take_case(
     requires parts { PartsNamed perhaps state.old.graph.types (by_name all.old.entries) }
     ensures ok { OnOk result (CaseStep state.old.graph state.new.graph (values_of names.now) (by_name all.old.entries)
         (by_name all.new.entries) (variant_case_of case.now)) }
-    ensures err { ErrorSays result (λ e. (naming : Naming) (before : List CaseTree)
-        → CaseBroken (scope_of naming state.old.graph (values_of names.now)) (ident_of declared.now) e
-        (cases_named naming state.old.graph (by_name all.old.entries)) before (variant_case_of case.now)) }
+    ensures err { ErrorSays result (λ e. (numbering : Numbering) (before : List CaseTree)
+        → CaseBroken (scope_of numbering state.old.graph (values_of names.now)) (ident_of declared.now) e
+        (cases_named numbering state.old.graph (by_name all.old.entries)) before (variant_case_of case.now)) }
 {
     let value = case_type(&case.ty, state, names)?;
     check_case(state.alloc, declared, all, &case.id)?;
@@ -104,10 +104,10 @@ fn take_cases(
     requires parts { PartsNamed perhaps state.old.graph.types (by_name all.old.entries) }
     ensures ok { OnOk result (CaseSteps state.old.graph state.new.graph (values_of names.now) (by_name all.old.entries)
         (by_name all.new.entries) (map variant_case_of cases.now)) }
-    ensures err { ErrorSays result (λ e. (naming : Naming)
-        → Fails (HasCase (scope_of naming state.old.graph (values_of names.now)))
-        (CaseBroken (scope_of naming state.old.graph (values_of names.now)) (ident_of declared.now) e)
-        (cases_named naming state.old.graph (by_name all.old.entries)) (map variant_case_of cases.now)) }
+    ensures err { ErrorSays result (λ e. (numbering : Numbering)
+        → Fails (HasCase (scope_of numbering state.old.graph (values_of names.now)))
+        (CaseBroken (scope_of numbering state.old.graph (values_of names.now)) (ident_of declared.now) e)
+        (cases_named numbering state.old.graph (by_name all.old.entries)) (map variant_case_of cases.now)) }
 {
     for case in cases {
         take_case(case, state, names, declared, all)?;
@@ -123,10 +123,10 @@ pub fn variant(
 ) -> Result<ValueType, Error>
     requires { ItemsNamed state.old.graph.types (values_of names.now) }
     ensures ok { IfOk result (λ v. ValueAdded state.old.graph state.new.graph
-        (λ naming m. IsVariant (scope_of naming state.old.graph (values_of names.now))
+        (λ numbering m. IsVariant (scope_of numbering state.old.graph (values_of names.now))
         (variant_decl_of decl.now) m) v) }
-    ensures err { ErrorSays result (λ e. (naming : Naming)
-        → VariantBroken (scope_of naming state.old.graph (values_of names.now)) (variant_decl_of decl.now) e) }
+    ensures err { ErrorSays result (λ e. (numbering : Numbering)
+        → VariantBroken (scope_of numbering state.old.graph (values_of names.now)) (variant_decl_of decl.now) e) }
 {
     let mut cases = IndexMap::new(state.alloc);
     take_cases(&decl.cases, state, names, &decl.id, &mut cases)?;

@@ -15,7 +15,7 @@ pub use Rattle.wac_ast_uses.specs.Uses.{use_item_of, use_of, use_path_of, world_
 pub use Rattle.wac_ast_worlds.specs.Worlds.{extern_type_of, inline_interface_of, interface_decl_of, interface_export_of, interface_item_of, named_world_item_of, world_export_of, world_import_of, world_item_of, world_item_path_of}
 pub use Rattle.wac_graph.specs.Graph.{Parts}
 pub use Rattle.wac_graph.specs.Means.{EntriesMean, declared_count, entry_means, means, origin_at}
-pub use Rattle.wac_graph.specs.Origin.{Naming}
+pub use Rattle.wac_graph.specs.Origin.{Numbering}
 pub use Rattle.wac_graph.specs.Package.{Key}
 pub use Rattle.wac_graph_types.specs.Entry.{Slot, export_children, import_children, use_children}
 pub use Rattle.wac_graph_types.specs.Meaning.{EachKind, Meaning, of_kind}
@@ -37,7 +37,7 @@ pub use Rattle.wac_graph_types.specs.declared.kind.WorldId.{WorldId}
 pub use Rattle.wac_lexer.specs.Span.{Span}
 pub use Rattle.wac_resolution_errors.proofs.Reports.{if_reports, reports}
 pub use Rattle.wac_resolution_errors.specs.Error.{Error, Reports, missing_world_include, use_conflict, world_include_conflict}
-pub use Rattle.wac_resolution_errors.specs.Told.{told}
+pub use Rattle.wac_resolution_errors.specs.ErrorModel.{error_model}
 pub use Rattle.wac_resolution_rules.proofs.StepLaws.{fails_at_map, steps_more, steps_on_map}
 pub use Rattle.wac_resolution_rules.specs.Bodies.{Body, UsesItem, externs, renamed_from, used_as, with_count, with_extern, with_type}
 pub use Rattle.wac_resolution_rules.specs.BrokenBodies.{IsConflict, IsNoInterface, IsNoTypeThere, IsNoUsableType, IsUseConflict, ItemBroken, Owner, UseBroken, UseItemBroken, help_unless, of_interface, of_world}
@@ -47,9 +47,9 @@ pub use Rattle.wac_resolution_rules.specs.Paths.{UseNames}
 pub use Rattle.wac_resolution_rules.specs.Places.{at_ident, bound_in_interface, bound_in_interface_item, bound_in_world, bound_in_world_item, used_at}
 pub use Rattle.wac_resolution_rules.specs.Spans.{use_path_name}
 pub use Rattle.wac_resolution_rules.specs.Worlds.{HasExtern, HasInstance, HasInterfaceItem, HasWorldItem, IsFuncRef, IsInterface, IsWorld, id_or_empty, include_in, includes_of}
-pub use Rattle.wac_resolution_state.proofs.Expanding.{expands_on, expands_self, grows_expands, handed_grown, items_expanded, scope_expanded}
+pub use Rattle.wac_resolution_state.proofs.Expanding.{expands_on, expands_self, grows_expands, supplied_grown, items_expanded, scope_expanded}
 pub use Rattle.wac_resolution_state.proofs.Grown.{grows_self}
-pub use Rattle.wac_resolution_state.proofs.Scopes.{memory_told}
+pub use Rattle.wac_resolution_state.proofs.Scopes.{memory_model}
 pub use Rattle.wac_resolution_state.specs.Bindings.{places_of, values_of}
 pub use Rattle.wac_resolution_state.specs.Context.{context_of, packages_in}
 pub use Rattle.wac_resolution_state.specs.Expands.{AllSupplied, Expands, Found}

@@ -14,9 +14,9 @@ interface_declared context old new root d id i ids h = record {
   grows = h.grows;
   supplied = h.supplied;
   named = h.named;
-  is = λ naming. (
-    entry_means naming new i.0,
-    subst (λ (o : Option (List ℕ)). IsInterface (context_of naming context) (scope_of naming old root) (declared_count old) o d.items (entry_means naming new i.0) (declared_count new)) (ap Some ids) (h.is naming),
+  is = λ numbering. (
+    entry_means numbering new i.0,
+    subst (λ (o : Option (List ℕ)). IsInterface (context_of numbering context) (scope_of numbering old root) (declared_count old) o d.items (entry_means numbering new i.0) (declared_count new)) (ap Some ids) (h.is numbering),
     refl,
   );
 }
@@ -27,9 +27,9 @@ world_declared context old new root name items id w ids h = record {
   grows = h.grows;
   supplied = h.supplied;
   named = h.named;
-  is = λ naming. (
-    entry_means naming new w.0,
-    subst (λ (o : Option (List ℕ)). IsWorld (context_of naming context) (scope_of naming old root) (declared_count old) o items (entry_means naming new w.0) (declared_count new)) (ap Some ids) (h.is naming),
+  is = λ numbering. (
+    entry_means numbering new w.0,
+    subst (λ (o : Option (List ℕ)). IsWorld (context_of numbering context) (scope_of numbering old root) (declared_count old) o items (entry_means numbering new w.0) (declared_count new)) (ap Some ids) (h.is numbering),
     refl,
   );
 }

@@ -1,5 +1,5 @@
 -- What a name finds among the entries of a `with` clause.
-use Rattle.wac_resolution_worlds.proofs.Common.{◌≡◌, ◌∙◌, ℕ, List, [], ◌∷◌, Option, Some, None, Bool, true, false, cond, refl, sym, ap, Bor, option_map, unwrap_or, string_bytes, String, slice_get, bytes_eq, Span, WorldInclude, WorldIncludeItem, by_name, Named, look_up, without_first, world_include_item_of, missing_world_include, told, name_taken, entry_named, span_of_entry, span_taken, IsLeftOver, world_ref_name, world_ref_span}
+use Rattle.wac_resolution_worlds.proofs.Common.{◌≡◌, ◌∙◌, ℕ, List, [], ◌∷◌, Option, Some, None, Bool, true, false, cond, refl, sym, ap, Bor, option_map, unwrap_or, string_bytes, String, slice_get, bytes_eq, Span, WorldInclude, WorldIncludeItem, by_name, Named, look_up, without_first, world_include_item_of, missing_world_include, error_model, name_taken, entry_named, span_of_entry, span_taken, IsLeftOver, world_ref_name, world_ref_span}
 use Rattle.std.specs.declared.alloc.Global.{Global}
 use Rattle.std.specs.Map.{remove_entry}
 use Rattle.std.proofs.lemmas.Slice.Eq.{bytes_eq-Decides}
@@ -85,9 +85,9 @@ left_of items name (e ∷ all) of = go (left_of items name all of.1) (bytes_eq n
 
 pub left_over : (x : WorldInclude) (es : List (String Global × Bor CodeWorldIncludeItem)) (name : String Global) (item : Bor CodeWorldIncludeItem) (world text : List ℕ) → Some (name, item) ≡ slice_get es 0 → AreOf x.items (by_name es)
     → world ≡ world_ref_name x.world → text ≡ string_bytes name → IsLeftOver x (entries_of (by_name es)) (missing_world_include world text item.now.from.span)
-left_over x [] name item world text is of named told = absurd (cc)
-left_over x (e ∷ es) name item world text is of named told =
+left_over x [] name item world text is of named text_is = absurd (cc)
+left_over x (e ∷ es) name item world text is of named text_is =
     let first : e ≡ (name, item) = cc in
     let at : item.now.from.span ≡ e.1.now.from.span = sym (ap (λ (d : String Global × Bor CodeWorldIncludeItem). d.1.now.from.span) first) in
-    let here : text ≡ string_bytes e.0 = told ∙ sym (ap (λ (d : String Global × Bor CodeWorldIncludeItem). string_bytes d.0) first) in
+    let here : text ≡ string_bytes e.0 = text_is ∙ sym (ap (λ (d : String Global × Bor CodeWorldIncludeItem). string_bytes d.0) first) in
     (world_include_item_of e.1.now, of.0, cc)

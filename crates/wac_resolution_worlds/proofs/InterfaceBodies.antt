@@ -1,5 +1,5 @@
 -- Items of interfaces.
-use Rattle.wac_resolution_worlds.proofs.Common.{◌≡◌, inr, ℕ, List, [], ◌∷◌, ◌++◌, Option, refl, sym, subst, Result, IfErr, OnOk, String, Global, IfErr-weaker, OnOk-map, Span, ItemTypeDecl, InterfaceExport, ItemKind, FuncTypeId, InterfaceId, Entry, UsedType, Slot, use_children, export_children, EachKind, by_name, Named, Scope, IsFresh, Steps, Fails, Names, ItemsNamed, interface_item_of, Parts, entry_means, declared_count, Naming, Error, told, Owner, of_interface, IsConflict, ItemBroken, UseBroken, InterfaceItemBroken, InterfaceBroken, bound_in_interface_item, bound_in_interface, IsFuncRef, HasInterfaceItem, values_of, places_of, scope_of, AllSupplied, packages_in, context_of, expands_on, grows_expands, handed_grown, Lists, with_kind, body_in, UsesNamed, IsBody, DeclarationStep, extern_fresh}
+use Rattle.wac_resolution_worlds.proofs.Common.{◌≡◌, inr, ℕ, List, [], ◌∷◌, ◌++◌, Option, refl, sym, subst, Result, IfErr, OnOk, String, Global, IfErr-weaker, OnOk-map, Span, ItemTypeDecl, InterfaceExport, ItemKind, FuncTypeId, InterfaceId, Entry, UsedType, Slot, use_children, export_children, EachKind, by_name, Named, Scope, IsFresh, Steps, Fails, Names, ItemsNamed, interface_item_of, Parts, entry_means, declared_count, Numbering, Error, error_model, Owner, of_interface, IsConflict, ItemBroken, UseBroken, InterfaceItemBroken, InterfaceBroken, bound_in_interface_item, bound_in_interface, IsFuncRef, HasInterfaceItem, values_of, places_of, scope_of, AllSupplied, packages_in, context_of, expands_on, grows_expands, supplied_grown, Lists, with_kind, body_in, UsesNamed, IsBody, DeclarationStep, extern_fresh}
 use Rattle.wac_ast_grammar.specs.Tree.{Use, InterfaceItem}
 use Rattle.wac_graph_types.specs.declared.kind.ExternKind.TheVariants as sides
 use Rattle.wac_graph_types.specs.declared.kind.ItemKind.TheVariants as kinds
@@ -17,15 +17,15 @@ use Rattle.wac_resolution_worlds.proofs.Growing.{goes_expand}
 pub export_goes : (old new : Parts) (b c : Lists) (x : InterfaceExport) (f : FuncTypeId)
     → IsBody old.types sides.Export b → FuncRefIs old new (values_of b.names) x.ty f → IsFresh x.id.string b.exports → c ≡ with_kind sides.Export b x.id.string (kinds.Func f) → FuncExportStep old new b c x
 export_goes old new b c x f body added fresh is =
-    func_goes sides.Export old new b c (λ naming scope entry. IsFuncRef scope x.ty entry) f x.id.string x.id.string
-    (λ naming before after. (context : rules.Context) (root : Scope) → HasInterfaceItem context root before (InterfaceItem.interface_export x) after) body added refl is
-    (λ naming entry after holds made context root. (entry, holds, extern_fresh naming old sides.Export b x.id.string fresh, made))
+    func_goes sides.Export old new b c (λ numbering scope entry. IsFuncRef scope x.ty entry) f x.id.string x.id.string
+    (λ numbering before after. (context : rules.Context) (root : Scope) → HasInterfaceItem context root before (InterfaceItem.interface_export x) after) body added refl is
+    (λ numbering entry after holds made context root. (entry, holds, extern_fresh numbering old sides.Export b x.id.string fresh, made))
 
 -- the name is exported already
 pub export_conflicts : (of : Owner) (old new : Parts) (b : Lists) (x : InterfaceExport) (f : FuncTypeId) (e : Error)
-    → FuncRefIs old new (values_of b.names) x.ty f → ((naming : Naming) → IsConflict of sides.Export (body_in naming old b) x.id.string x.id.span e)
-    → (naming : Naming) (context : rules.Context) (root : Scope) (before : List InterfaceItem) → InterfaceItemBroken context root of e (body_in naming old b) before (InterfaceItem.interface_export x)
-export_conflicts of old new b x f e added h naming context root before = inr (entry_means naming new f.0, added.is naming, h naming)
+    → FuncRefIs old new (values_of b.names) x.ty f → ((numbering : Numbering) → IsConflict of sides.Export (body_in numbering old b) x.id.string x.id.span e)
+    → (numbering : Numbering) (context : rules.Context) (root : Scope) (before : List InterfaceItem) → InterfaceItemBroken context root of e (body_in numbering old b) before (InterfaceItem.interface_export x)
+export_conflicts of old new b x f e added h numbering context root before = inr (entry_means numbering new f.0, added.is numbering, h numbering)
 
 -- ---- empty bodies
 
@@ -36,43 +36,43 @@ empty_is_body es b is = subst (IsBody es sides.Export) (sym is) (record { names 
 
 abbrev pub ItemBreaks : Context → Parts → Named ItemKind → Owner → Lists → InterfaceItem → CodeError → Type 0
 ItemBreaks context g root of b x e =
-    (naming : Naming) (before : List InterfaceItem) → places_of b.names ≡ bound_in_interface before → InterfaceItemBroken (context_of naming context) (scope_of naming g root) of (told e) (body_in naming g b) before x
+    (numbering : Numbering) (before : List InterfaceItem) → places_of b.names ≡ bound_in_interface before → InterfaceItemBroken (context_of numbering context) (scope_of numbering g root) of (error_model e) (body_in numbering g b) before x
 
 pub use_breaks : (context : Context) (g : Parts) (root : Named ItemKind) (of : Owner) (b : Lists) (x : CodeInterfaceItem) (u : Use) (r : Result (Unit {0}) CodeError) → interface_item_of x ≡ InterfaceItem.use_statement u
-    → IfErr r (λ e. (naming : Naming) → UseBroken (context_of naming context) (scope_of naming g root) sides.Export (body_in naming g b) u (told e))
+    → IfErr r (λ e. (numbering : Numbering) → UseBroken (context_of numbering context) (scope_of numbering g root) sides.Export (body_in numbering g b) u (error_model e))
     → IfErr r (ItemBreaks context g root of b (interface_item_of x))
 use_breaks context g root of b x u r is h =
     subst (λ (y : InterfaceItem). IfErr r (ItemBreaks context g root of b y)) (sym is)
-    (IfErr-weaker r _ (ItemBreaks context g root of b (InterfaceItem.use_statement u)) (λ e p naming before places. p naming) h)
+    (IfErr-weaker r _ (ItemBreaks context g root of b (InterfaceItem.use_statement u)) (λ e p numbering before places. p numbering) h)
 
 pub export_breaks : (context : Context) (g : Parts) (root : Named ItemKind) (of : Owner) (b : Lists) (x : CodeInterfaceItem) (f : InterfaceExport) (r : Result (Unit {0}) CodeError) → interface_item_of x ≡ InterfaceItem.interface_export f
-    → IfErr r (λ e. (naming : Naming) (s : rules.Context) (top : Scope) (before : List InterfaceItem) → InterfaceItemBroken s top of (told e) (body_in naming g b) before (InterfaceItem.interface_export f))
+    → IfErr r (λ e. (numbering : Numbering) (s : rules.Context) (top : Scope) (before : List InterfaceItem) → InterfaceItemBroken s top of (error_model e) (body_in numbering g b) before (InterfaceItem.interface_export f))
     → IfErr r (ItemBreaks context g root of b (interface_item_of x))
 export_breaks context g root of b x f r is h =
     subst (λ (y : InterfaceItem). IfErr r (ItemBreaks context g root of b y)) (sym is)
-    (IfErr-weaker r _ (ItemBreaks context g root of b (InterfaceItem.interface_export f)) (λ e p naming before places. p naming (context_of naming context) (scope_of naming g root) before) h)
+    (IfErr-weaker r _ (ItemBreaks context g root of b (InterfaceItem.interface_export f)) (λ e p numbering before places. p numbering (context_of numbering context) (scope_of numbering g root) before) h)
 
 pub declaration_breaks : (context : Context) (g : Parts) (root : Named ItemKind) (of : Owner) (b : Lists) (x : CodeInterfaceItem) (d : ItemTypeDecl) (r : Result (Unit {0}) CodeError) → interface_item_of x ≡ InterfaceItem.ty d
-    → IfErr r (λ e. (naming : Naming) → ItemBroken naming of sides.Export (places_of b.names) (body_in naming g b) d (told e))
+    → IfErr r (λ e. (numbering : Numbering) → ItemBroken numbering of sides.Export (places_of b.names) (body_in numbering g b) d (error_model e))
     → IfErr r (ItemBreaks context g root of b (interface_item_of x))
 declaration_breaks context g root of b x d r is h =
     subst (λ (y : InterfaceItem). IfErr r (ItemBreaks context g root of b y)) (sym is)
     (IfErr-weaker r _ (ItemBreaks context g root of b (InterfaceItem.ty d))
-    (λ e p naming before places. subst (λ (l : Named Span). ItemBroken naming of sides.Export l (body_in naming g b) d (told e)) places (p naming)) h)
+    (λ e p numbering before places. subst (λ (l : Named Span). ItemBroken numbering of sides.Export l (body_in numbering g b) d (error_model e)) places (p numbering)) h)
 
 pub export_item : (context : Context) (old new : Parts) (root : Named ItemKind) (b c : Lists) (x : CodeInterfaceItem) (f : InterfaceExport) (r : Result (Unit {0}) CodeError) → interface_item_of x ≡ InterfaceItem.interface_export f → AllSupplied (packages_in context) old
     → OnOk r (FuncExportStep old new b c f) → OnOk r (InterfaceItemStep context old new root b c (interface_item_of x))
 export_item context old new root b c x f r is held h =
     subst (λ (y : InterfaceItem). OnOk r (InterfaceItemStep context old new root b c y)) (sym is)
     (OnOk-map r _ (InterfaceItemStep context old new root b c (InterfaceItem.interface_export f))
-    (goes_expand (packages_in context) sides.Export old new b c [] _ _ (λ naming before after p. p (context_of naming context) (scope_of naming old root)) held) h)
+    (goes_expand (packages_in context) sides.Export old new b c [] _ _ (λ numbering before after p. p (context_of numbering context) (scope_of numbering old root)) held) h)
 
 pub declaration_item : (context : Context) (old new : Parts) (root : Named ItemKind) (b c : Lists) (x : CodeInterfaceItem) (d : ItemTypeDecl) (r : Result (Unit {0}) CodeError) → interface_item_of x ≡ InterfaceItem.ty d → AllSupplied (packages_in context) old
     → OnOk r (DeclarationStep sides.Export old new b c d) → OnOk r (InterfaceItemStep context old new root b c (interface_item_of x))
 declaration_item context old new root b c x d r is held h =
     subst (λ (y : InterfaceItem). OnOk r (InterfaceItemStep context old new root b c y)) (sym is)
     (OnOk-map r _ (InterfaceItemStep context old new root b c (InterfaceItem.ty d))
-    (goes_expand (packages_in context) sides.Export old new b c (bound_in_interface_item (InterfaceItem.ty d)) _ _ (λ naming before after p. p) held) h)
+    (goes_expand (packages_in context) sides.Export old new b c (bound_in_interface_item (InterfaceItem.ty d)) _ _ (λ numbering before after p. p) held) h)
 
 -- ---- interfaces
 
@@ -98,19 +98,19 @@ pub interface_made : (context : Context) (old mid new : Parts) (root : Named Ite
     → InterfaceItemSteps context old mid root b c items → InterfaceOf mid new id c i → InterfaceMade context old new root id items i
 interface_made context old mid new root b c id items i empty p a = record {
   grows = expands_on old mid new p.grows (grows_expands mid new a.grows.grows);
-  supplied = handed_grown (packages_in context) mid new a.grows.grows p.supplied;
+  supplied = supplied_grown (packages_in context) mid new a.grows.grows p.supplied;
   named = a.named;
-  is = λ naming. (
-    body_in naming mid c,
-    subst (λ (l : Lists). Steps (HasInterfaceItem (context_of naming context) (scope_of naming old root)) (body_in naming old l) items (body_in naming mid c)) empty (p.goes naming),
-    a.is naming,
+  is = λ numbering. (
+    body_in numbering mid c,
+    subst (λ (l : Lists). Steps (HasInterfaceItem (context_of numbering context) (scope_of numbering old root)) (body_in numbering old l) items (body_in numbering mid c)) empty (p.goes numbering),
+    a.is numbering,
     a.grows.count,
   );
 }
 
 -- an item is broken
 pub items_broken : (context : Context) (g : Parts) (root : Named ItemKind) (b : Lists) (name : Option (List ℕ)) (items : List InterfaceItem) (e : Error) → b ≡ no_lists
-    → ((naming : Naming) → Fails (HasInterfaceItem (context_of naming context) (scope_of naming g root)) (InterfaceItemBroken (context_of naming context) (scope_of naming g root) (of_interface name) e) (body_in naming g b) items)
-    → (naming : Naming) → InterfaceBroken (context_of naming context) (scope_of naming g root) name (declared_count g) items e
-items_broken context g root b name items e empty h naming =
-    subst (λ (l : Lists). Fails (HasInterfaceItem (context_of naming context) (scope_of naming g root)) (InterfaceItemBroken (context_of naming context) (scope_of naming g root) (of_interface name) e) (body_in naming g l) items) empty (h naming)
+    → ((numbering : Numbering) → Fails (HasInterfaceItem (context_of numbering context) (scope_of numbering g root)) (InterfaceItemBroken (context_of numbering context) (scope_of numbering g root) (of_interface name) e) (body_in numbering g b) items)
+    → (numbering : Numbering) → InterfaceBroken (context_of numbering context) (scope_of numbering g root) name (declared_count g) items e
+items_broken context g root b name items e empty h numbering =
+    subst (λ (l : Lists). Fails (HasInterfaceItem (context_of numbering context) (scope_of numbering g root)) (InterfaceItemBroken (context_of numbering context) (scope_of numbering g root) (of_interface name) e) (body_in numbering g l) items) empty (h numbering)

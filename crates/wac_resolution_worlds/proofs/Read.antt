@@ -11,8 +11,8 @@ use Rattle.wac_resolution_worlds.proofs.Found.{new_name, entry_found}
 abbrev Items : Type 0
 Items = Named CodeWorldIncludeItem
 
-abbrev pub behind : Renamings → Items
-behind all = map (λ e. (e.0, e.1.now)) all
+abbrev pub after : Renamings → Items
+after all = map (λ e. (e.0, e.1.now)) all
 
 abbrev new_text : CodeWorldIncludeItem → List ℕ
 new_text x = x.to.string.now
@@ -20,16 +20,16 @@ new_text x = x.to.string.now
 abbrev texts : Items → Entries
 texts all = map (λ e. (e.0, new_text e.1)) all
 
-texts_behind : (all : Renamings) → entries_of all ≡ texts (behind all)
-texts_behind [] = refl
-texts_behind (e ∷ all) = ap (λ (l : Entries). (e.0, new_text e.1.now) ∷ l) (texts_behind all)
+texts_after : (all : Renamings) → entries_of all ≡ texts (after all)
+texts_after [] = refl
+texts_after (e ∷ all) = ap (λ (l : Entries). (e.0, new_text e.1.now) ∷ l) (texts_after all)
 
 abbrev ItemsOf : List WorldIncludeItem → Items → Type 0
 ItemsOf items all = AllByRecursion (λ e. entry_named e.0 items ≡ Some (world_include_item_of e.1)) all
 
-of_behind : (items : List WorldIncludeItem) (all : Renamings) → ItemsOf items (behind all) → AreOf items all
-of_behind items [] h = tt
-of_behind items (e ∷ all) h = (h.0, of_behind items all h.1)
+of_after : (items : List WorldIncludeItem) (all : Renamings) → ItemsOf items (after all) → AreOf items all
+of_after items [] h = tt
+of_after items (e ∷ all) h = (h.0, of_after items all h.1)
 
 -- an item of a clause, by the name that it renames
 abbrev pub renaming : CodeWorldIncludeItem → List ℕ × CodeWorldIncludeItem
@@ -43,7 +43,7 @@ trees xs = map world_include_item_of xs
 -- the entries so far
 pub record AreRead (xs : List CodeWorldIncludeItem) (i : ℕ) (all : Renamings) : Type 0 where
   pub steps : Steps HasEntry [] (take i (map world_include_item_of xs)) (entries_of all)
-  pub are : behind all ≡ map renaming (take i xs)
+  pub are : after all ≡ map renaming (take i xs)
 
 fresh_entry : (name : List ℕ) (all : Renamings) → IsFresh name all → IsFresh name (entries_of all)
 fresh_entry name all is = entry_found name all ∙ ap (option_map new_name) is
@@ -55,13 +55,13 @@ pub second_entry : (all : Renamings) (name : List ℕ) (x : Bor CodeWorldInclude
 second_entry all name x is = entry_found name all ∙ ap (option_map new_name) is
 
 pub none_read : (xs : List CodeWorldIncludeItem) (all : Renamings) → all ≡ [] → AreRead xs 0 all
-none_read xs all is = record { steps = ap entries_of is; are = ap behind is }
+none_read xs all is = record { steps = ap entries_of is; are = ap after is }
 
 pub read_step : (xs : List CodeWorldIncludeItem) (i : ℕ) (x : Bor CodeWorldIncludeItem) (all new : Renamings) → i < length xs → x.now ≡ get_or xs i x.now → IsFresh x.now.from.string.now all → new ≡ with_named all x.now.from.string.now x → AreRead xs i all → AreRead xs (i + 1) new
 read_step xs i x all new within at fresh added h = record {
   steps = steps_on_map HasEntry world_include_item_of [] xs i x.now (entries_of all) (entries_of new) within h.steps (subst (λ (y : CodeWorldIncludeItem). HasEntry (entries_of all) (world_include_item_of y) (entries_of new)) at (one_read all new x fresh added));
   are =
-      ap behind added ∙ map_push (λ (e : List ℕ × Bor CodeWorldIncludeItem). (e.0, e.1.now)) all (x.now.from.string.now, x)
+      ap after added ∙ map_push (λ (e : List ℕ × Bor CodeWorldIncludeItem). (e.0, e.1.now)) all (x.now.from.string.now, x)
       ∙ ap (λ (l : Items). with_named l x.now.from.string.now x.now) h.are
       ∙ sym (ap (map renaming) (take_more xs i x.now within ∙ ap (λ (y : CodeWorldIncludeItem). take i xs ++ y ∷ []) (sym at)) ∙ map_push renaming (take i xs) x.now);
 }
@@ -107,5 +107,5 @@ each_of before (x ∷ rest) new p =
 pub all_read : (xs : List CodeWorldIncludeItem) (i : ℕ) (all : Renamings) → take i (map world_include_item_of xs) ≡ map world_include_item_of xs → take i xs ≡ xs → AreRead xs i all → AreAll (map world_include_item_of xs) all
 all_read xs i all whole_trees whole h =
     let steps : Steps HasEntry [] (map world_include_item_of xs) (entries_of all) = subst (λ (l : List WorldIncludeItem). Steps HasEntry [] l (entries_of all)) whole_trees h.steps in
-    let are : behind all ≡ map renaming xs = h.are ∙ ap (map renaming) whole in
-    record { once = steps; of_clause = of_behind (map world_include_item_of xs) all (subst (ItemsOf (map world_include_item_of xs)) (sym are) (each_of [] xs (entries_of all) steps)) }
+    let are : after all ≡ map renaming xs = h.are ∙ ap (map renaming) whole in
+    record { once = steps; of_clause = of_after (map world_include_item_of xs) all (subst (ItemsOf (map world_include_item_of xs)) (sym are) (each_of [] xs (entries_of all) steps)) }

@@ -1,5 +1,5 @@
 -- Names of an included world, taken in order.
-use Rattle.wac_resolution_worlds.proofs.Common.{◌≡◌, ◌∙◌, ℕ, List, [], ◌∷◌, ◌++◌, Option, Some, None, Bool, true, false, refl, sym, ap, subst, append-nil, option_map, map_push, Span, WorldIncludeItem, ItemKind, Meaning, of_kind, Named, look_up, IsFresh, StandsFor, with_named, without_first, items_mean, Steps, Fails, Names, ItemsNamed, Parts, means, entry_means, Naming, world_include_conflict, Entries, has_colon, Taking, with_missing, name_taken, TakesNamed, Takes, steps_more}
+use Rattle.wac_resolution_worlds.proofs.Common.{◌≡◌, ◌∙◌, ℕ, List, [], ◌∷◌, ◌++◌, Option, Some, None, Bool, true, false, refl, sym, ap, subst, append-nil, option_map, map_push, Span, WorldIncludeItem, ItemKind, Meaning, of_kind, Named, look_up, IsFresh, StandsFor, with_named, without_first, items_mean, Steps, Fails, Names, ItemsNamed, Parts, means, entry_means, Numbering, world_include_conflict, Entries, has_colon, Taking, with_missing, name_taken, TakesNamed, Takes, steps_more}
 use Rattle.wac_graph_types.specs.declared.kind.ExternKind.{ExternKind}
 use Rattle.wac_graph_types.specs.declared.entry.Entry.{Entry}
 use Rattle.wac_graph_types.proofs.Shapes.{items_found}
@@ -41,11 +41,11 @@ missing_named ts ks name k h here = go (look_up name ks)
 pub kept_taken : (items : List WorldIncludeItem) (es : Renamings) (ks ls : Named ItemKind) (name : List ℕ) (k : ItemKind) → has_colon name ≡ true → AreOf items es → ls ≡ unless_there ks name k → NameTaken items es es ks ls (name, k)
 kept_taken items es ks ls name k colon of is = record {
   of_clause = of;
-  takes = λ naming g.
-      let f : ℕ → Meaning = entry_means naming g in
+  takes = λ numbering g.
+      let f : ℕ → Meaning = entry_means numbering g in
       let there : items_mean f ls ≡ with_missing (items_mean f ks) name (of_kind f k) = ap (items_mean f) is ∙ missing_means f ks name k in
-      let same : taking_of naming g es ls ≡ record { entries = entries_of es; there = with_missing (items_mean f ks) name (of_kind f k) } = ap (λ (l : Named Meaning). taking es l) there in
-      subst (λ (b : Bool). TakesNamed b (taking_of naming g es ks) (name, means naming g k) (taking_of naming g es ls)) (sym colon) same;
+      let same : taking_of numbering g es ls ≡ record { entries = entries_of es; there = with_missing (items_mean f ks) name (of_kind f k) } = ap (λ (l : Named Meaning). taking es l) there in
+      subst (λ (b : Bool). TakesNamed b (taking_of numbering g es ks) (name, means numbering g k) (taking_of numbering g es ls)) (sym colon) same;
   named = λ ts h here. subst (ItemsNamed ts) (sym is) (missing_named ts ks name k h here);
 }
   where
@@ -56,12 +56,12 @@ pub renamed_taken : (items : List WorldIncludeItem) (es fs : Renamings) (ks ls :
     → fs ≡ without_first name es → ls ≡ with_named ks (name_taken (entries_of es) name) k → NameTaken items es fs ks ls (name, k)
 renamed_taken items es fs ks ls name k colon of fresh left added = record {
   of_clause = subst (AreOf items) (sym left) (left_of items name es of);
-  takes = λ naming g.
-      let f : ℕ → Meaning = entry_means naming g in
+  takes = λ numbering g.
+      let f : ℕ → Meaning = entry_means numbering g in
       let entries : entries_of fs ≡ without_first name (entries_of es) = ap entries_of left ∙ left_read name es in
       let there : items_mean f ls ≡ with_named (items_mean f ks) (name_taken (entries_of es) name) (of_kind f k) = ap (items_mean f) added ∙ one_more_means f ks (name_taken (entries_of es) name) k in
-      let same : taking_of naming g fs ls ≡ record { entries = without_first name (entries_of es); there = with_named (items_mean f ks) (name_taken (entries_of es) name) (of_kind f k) } = both entries there in
-      subst (λ (b : Bool). TakesNamed b (taking_of naming g es ks) (name, means naming g k) (taking_of naming g fs ls)) (sym colon) (kind_fresh f ks (name_taken (entries_of es) name) fresh, same);
+      let same : taking_of numbering g fs ls ≡ record { entries = without_first name (entries_of es); there = with_named (items_mean f ks) (name_taken (entries_of es) name) (of_kind f k) } = both entries there in
+      subst (λ (b : Bool). TakesNamed b (taking_of numbering g es ks) (name, means numbering g k) (taking_of numbering g fs ls)) (sym colon) (kind_fresh f ks (name_taken (entries_of es) name) fresh, same);
   named = λ ts h here. subst (ItemsNamed ts) (sym added) (one_more_named ts ks (name_taken (entries_of es) name) k h here);
 }
   where
@@ -72,9 +72,9 @@ renamed_taken items es fs ks ls name k colon of fresh left added = record {
     both p q = cc
 
 -- the name that a name gets is taken
-pub conflicts : (naming : Naming) (g : Parts) (es : Renamings) (ks : Named ItemKind) (name : List ℕ) (k : ItemKind) → StandsFor ks (name_taken (entries_of es) name) k
-    → StandsFor (taking_of naming g es ks).there (name_taken (taking_of naming g es ks).entries name) (means naming g k)
-conflicts naming g es ks name k is = kind_stands (entry_means naming g) ks (name_taken (entries_of es) name) k is
+pub conflicts : (numbering : Numbering) (g : Parts) (es : Renamings) (ks : Named ItemKind) (name : List ℕ) (k : ItemKind) → StandsFor ks (name_taken (entries_of es) name) k
+    → StandsFor (taking_of numbering g es ks).there (name_taken (taking_of numbering g es ks).entries name) (means numbering g k)
+conflicts numbering g es ks name k is = kind_stands (entry_means numbering g) ks (name_taken (entries_of es) name) k is
 
 -- its error, by its parts
 pub conflict_told : (side : ExternKind) (name from to text world named : List ℕ) (at span : Span) (help advice : Option (List ℕ)) → name ≡ text → from ≡ world → to ≡ named → at ≡ span → help ≡ advice
@@ -90,7 +90,7 @@ pub record TakenTo (items : List WorldIncludeItem) (es fs : Renamings) (ks ls al
   pub taken : NamesTaken items es fs ks ls done
 
 pub no_names : (items : List WorldIncludeItem) (es : Renamings) (ks : Named ItemKind) → AreOf items es → NamesTaken items es es ks ks []
-no_names items es ks of = record { of_clause = of; take = λ naming g. refl; named = λ ts h i. h }
+no_names items es ks of = record { of_clause = of; take = λ numbering g. refl; named = λ ts h i. h }
 
 pub none_taken : (items : List WorldIncludeItem) (es : Renamings) (ks all : Named ItemKind) → AreOf items es → TakenTo items es es ks ks all all
 none_taken items es ks all of = record { done = []; split = refl; taken = no_names items es ks of }
@@ -113,10 +113,10 @@ taken_step items es fs hs ks ls ms all rest left x is p q = record {
   split = p.split ∙ ap (λ (l : Named ItemKind). p.done ++ l) is ∙ append_one p.done x left;
   taken = record {
     of_clause = q.of_clause;
-    take = λ naming g.
-        let f : ℕ → Meaning = entry_means naming g in
-        subst (λ (l : Named Meaning). Steps Takes (taking_of naming g es ks) l (taking_of naming g hs ms)) (sym (map_push (λ (e : List ℕ × ItemKind). (e.0, of_kind f e.1)) p.done x))
-        (steps_more Takes (taking_of naming g es ks) (items_mean f p.done) (x.0, of_kind f x.1) (taking_of naming g fs ls) (taking_of naming g hs ms) (p.taken.take naming g) (q.takes naming g));
+    take = λ numbering g.
+        let f : ℕ → Meaning = entry_means numbering g in
+        subst (λ (l : Named Meaning). Steps Takes (taking_of numbering g es ks) l (taking_of numbering g hs ms)) (sym (map_push (λ (e : List ℕ × ItemKind). (e.0, of_kind f e.1)) p.done x))
+        (steps_more Takes (taking_of numbering g es ks) (items_mean f p.done) (x.0, of_kind f x.1) (taking_of numbering g fs ls) (taking_of numbering g hs ms) (p.taken.take numbering g) (q.takes numbering g));
     named = λ ts h i. let r = split_named ts p.done (x ∷ []) i in q.named ts (p.taken.named ts h r.0) r.1.0;
   };
 }
@@ -126,16 +126,16 @@ all_taken items es fs ks ls all rest is p =
     let nil : p.done ++ [] ≡ p.done = simp append-nil in
     subst (NamesTaken items es fs ks ls) (sym (p.split ∙ ap (λ (l : Named ItemKind). p.done ++ l) is ∙ nil)) p.taken
 
-pub taken_break : (items : List WorldIncludeItem) (es fs : Renamings) (ks ls all rest left : Named ItemKind) (x : List ℕ × ItemKind) (broken : Taking → List (List ℕ × Meaning) → List ℕ × Meaning → Type 0) (naming : Naming) (g : Parts) → rest ≡ x ∷ left → TakenTo items es fs ks ls all rest
-    → ((before : List (List ℕ × Meaning)) → broken (taking_of naming g fs ls) before (x.0, means naming g x.1)) → Fails Takes broken (taking_of naming g es ks) (items_mean (entry_means naming g) all)
-taken_break items es fs ks ls all rest left x broken naming g is p breaks =
-    let f : ℕ → Meaning = entry_means naming g in
+pub taken_break : (items : List WorldIncludeItem) (es fs : Renamings) (ks ls all rest left : Named ItemKind) (x : List ℕ × ItemKind) (broken : Taking → List (List ℕ × Meaning) → List ℕ × Meaning → Type 0) (numbering : Numbering) (g : Parts) → rest ≡ x ∷ left → TakenTo items es fs ks ls all rest
+    → ((before : List (List ℕ × Meaning)) → broken (taking_of numbering g fs ls) before (x.0, means numbering g x.1)) → Fails Takes broken (taking_of numbering g es ks) (items_mean (entry_means numbering g) all)
+taken_break items es fs ks ls all rest left x broken numbering g is p breaks =
+    let f : ℕ → Meaning = entry_means numbering g in
     record {
       before = items_mean f p.done;
       failing = (x.0, of_kind f x.1);
       after = items_mean f left;
       split = ap (items_mean f) (p.split ∙ ap (λ (l : Named ItemKind). p.done ++ l) is) ∙ means_append f p.done (x ∷ left);
-      reached = taking_of naming g fs ls;
-      leads = p.taken.take naming g;
+      reached = taking_of numbering g fs ls;
+      leads = p.taken.take numbering g;
       breaks = breaks (items_mean f p.done);
     }

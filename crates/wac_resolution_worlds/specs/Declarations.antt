@@ -22,15 +22,15 @@ id_text context name = context.own.now ++ codes "/" ++ name ++ version_part (opt
 -- the kind is a declared interface
 abbrev pub InterfaceDeclared : Context → Parts → Parts → Named ItemKind → InterfaceDecl → ItemKind → Type 0
 InterfaceDeclared context old new root d k =
-    KindMade (packages_in context) old new (λ naming m after. (entry : Meaning)
-    × IsInterface (context_of naming context) (scope_of naming old root) (declared_count old)
-    (declared_id (context_of naming context) d.id.string) d.items entry after
+    KindMade (packages_in context) old new (λ numbering m after. (entry : Meaning)
+    × IsInterface (context_of numbering context) (scope_of numbering old root) (declared_count old)
+    (declared_id (context_of numbering context) d.id.string) d.items entry after
     × (m ≡ kind_of an_interface entry)) k
 
 -- the kind is a declared world of this name and these items
 abbrev pub WorldDeclared : Context → Parts → Parts → Named ItemKind → List ℕ → List WorldItem → ItemKind → Type 0
 WorldDeclared context old new root name items k =
-    KindMade (packages_in context) old new (λ naming m after. (entry : Meaning)
-    × IsWorld (context_of naming context) (scope_of naming old root) (declared_count old)
-    (declared_id (context_of naming context) name) items entry after
+    KindMade (packages_in context) old new (λ numbering m after. (entry : Meaning)
+    × IsWorld (context_of numbering context) (scope_of numbering old root) (declared_count old)
+    (declared_id (context_of numbering context) name) items entry after
     × (m ≡ kind_of a_world entry)) k

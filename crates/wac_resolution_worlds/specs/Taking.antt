@@ -11,7 +11,7 @@ use Rattle.wac_graph_types.specs.Steps.{Steps}
 use Rattle.wac_graph_types.specs.Table.{Names, ItemsNamed}
 use Rattle.wac_graph.specs.Graph.{Parts}
 use Rattle.wac_graph.specs.Means.{means, entry_means}
-use Rattle.wac_graph.specs.Origin.{Naming}
+use Rattle.wac_graph.specs.Origin.{Numbering}
 use Rattle.wac_ast_uses.specs.Uses.{world_include_of}
 use Rattle.wac_resolution_rules.specs.Bodies.{Body}
 use Rattle.wac_resolution_rules.specs.Includes.{Entries, Taking, Takes, Included}
@@ -31,48 +31,48 @@ abbrev pub unless_there : {X : Type 0} → Named X → List ℕ → X → Named 
 unless_there there name x = elim (look_up name there) [ None ↦ with_named there name x | Some old ↦ there ]
 
 -- the entries that are left, and the imports or exports so far
-abbrev pub taking_of : Naming → Parts → Renamings → Named ItemKind → Taking
-taking_of naming g es ks = record { entries = entries_of es; there = items_mean (entry_means naming g) ks }
+abbrev pub taking_of : Numbering → Parts → Renamings → Named ItemKind → Taking
+taking_of numbering g es ks = record { entries = entries_of es; there = items_mean (entry_means numbering g) ks }
 
 -- a name of an included world takes the old entries and names to the new ones, whatever the graph is
 pub record NameTaken (items : List WorldIncludeItem) (es fs : Renamings) (ks ls : Named ItemKind)
     (x : List ℕ × ItemKind) : Type 0 where
   pub of_clause : AreOf items fs
-  pub takes : (naming : Naming) (g : Parts)
-      → Takes (taking_of naming g es ks) (x.0, means naming g x.1) (taking_of naming g fs ls)
+  pub takes : (numbering : Numbering) (g : Parts)
+      → Takes (taking_of numbering g es ks) (x.0, means numbering g x.1) (taking_of numbering g fs ls)
   pub named : (ts : List Entry) → ItemsNamed ts ks → Names ts x.1 → ItemsNamed ts ls
 
 -- so do names in order
 pub record NamesTaken (items : List WorldIncludeItem) (es fs : Renamings) (ks ls xs : Named ItemKind) : Type 0 where
   pub of_clause : AreOf items fs
-  pub take : (naming : Naming) (g : Parts)
-      → Steps Takes (taking_of naming g es ks) (items_mean (entry_means naming g) xs) (taking_of naming g fs ls)
+  pub take : (numbering : Numbering) (g : Parts)
+      → Steps Takes (taking_of numbering g es ks) (items_mean (entry_means numbering g) xs) (taking_of numbering g fs ls)
   pub named : (ts : List Entry) → ItemsNamed ts ks → ItemsNamed ts xs → ItemsNamed ts ls
 
 -- ---- worlds
 
 -- the kind is a world or component, of this entry, whatever the graph is
 pub record IsWorldKind (k : ItemKind) (w : WorldId) : Type 0 where
-  pub is : (naming : Naming) (g : Parts) → IsA is_world_form (means naming g k)
-  pub entry : (naming : Naming) (g : Parts) → entry_of (means naming g k) ≡ entry_means naming g w.0
+  pub is : (numbering : Numbering) (g : Parts) → IsA is_world_form (means numbering g k)
+  pub entry : (numbering : Numbering) (g : Parts) → entry_of (means numbering g k) ≡ entry_means numbering g w.0
   pub named : (ts : List Entry) → Names ts k → Names ts (kinds.Component w)
 
 -- a body with these imports and exports
-abbrev pub with_both : Naming → Parts → Body → Named ItemKind → Named ItemKind → Body
-with_both naming g b is es =
-    record b { imports = items_mean (entry_means naming g) is; exports = items_mean (entry_means naming g) es }
+abbrev pub with_both : Numbering → Parts → Body → Named ItemKind → Named ItemKind → Body
+with_both numbering g b is es =
+    record b { imports = items_mean (entry_means numbering g) is; exports = items_mean (entry_means numbering g) es }
 
 -- what is taken of a world of the graph
 pub record WorldTaken (g : Parts) (entries : Entries) (w : WorldId) (is es js fs : Named ItemKind) : Type 0 where
-  pub included : (naming : Naming) (b : Body)
-      → Included entries (entry_means naming g w.0) (with_both naming g b is es) (with_both naming g b js fs)
+  pub included : (numbering : Numbering) (b : Body)
+      → Included entries (entry_means numbering g w.0) (with_both numbering g b is es) (with_both numbering g b js fs)
   pub imports : ItemsNamed g.types is → ItemsNamed g.types js
   pub exports : ItemsNamed g.types es → ItemsNamed g.types fs
 
 -- what a kind of the graph, which is a world or component, adds to imports and exports
 pub record IsIncluded (g : Parts) (entries : Entries) (k : ItemKind) (is es js fs : Named ItemKind) : Type 0 where
-  pub is_world : (naming : Naming) → IsA is_world_form (means naming g k)
-  pub included : (naming : Naming) (b : Body)
-      → Included entries (entry_of (means naming g k)) (with_both naming g b is es) (with_both naming g b js fs)
+  pub is_world : (numbering : Numbering) → IsA is_world_form (means numbering g k)
+  pub included : (numbering : Numbering) (b : Body)
+      → Included entries (entry_of (means numbering g k)) (with_both numbering g b is es) (with_both numbering g b js fs)
   pub imports : ItemsNamed g.types is → ItemsNamed g.types js
   pub exports : ItemsNamed g.types es → ItemsNamed g.types fs

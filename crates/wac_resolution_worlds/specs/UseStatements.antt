@@ -11,7 +11,7 @@ use Rattle.wac_graph_types.specs.Meaning.{Meaning}
 use Rattle.wac_graph_types.specs.Package.{PackageParts}
 use Rattle.wac_graph_types.specs.Scope.{Named, Scope}
 use Rattle.wac_graph.specs.Graph.{Parts}
-use Rattle.wac_graph.specs.Origin.{Naming}
+use Rattle.wac_graph.specs.Origin.{Numbering}
 use Rattle.wac_graph.specs.Package.{Key}
 use Rattle.wac_resolution_errors.specs.Error.{Error}
 use Rattle.wac_resolution_rules.specs.Bodies.{Body, HasUse}
@@ -30,7 +30,7 @@ use Rattle.wac_resolution_types.specs.Bodies.{body_in, IsBody}
 -- the path or identifier names this interface
 abbrev pub IsInterface : Context → Parts → Parts → Named ItemKind → UsePath → InterfaceId → Type 0
 IsInterface context old new root used i = Found (packages_in context) old new
-    (λ naming m. rules.UseNames (context_of naming context) (scope_of naming old root) used m)
+    (λ numbering m. rules.UseNames (context_of numbering context) (scope_of numbering old root) used m)
     (kinds.Ty (types.Interface i))
 
 -- it names none
@@ -41,15 +41,15 @@ IsNoneNamed context root used e = UsePathBroken context root used e
 -- the graph got more types and perhaps more packages, and the body is another one: these names were bound, and this
 -- holds of what both bodies mean
 pub record BodyExpands (packages : List (Key × PackageParts)) (side : ExternKind) (old new : Parts) (b c : Lists)
-    (bound : Named Span) (holds : Naming → Body → Body → Type 0) : Type 0 where
+    (bound : Named Span) (holds : Numbering → Body → Body → Type 0) : Type 0 where
   pub grows : Expands old new
   pub supplied : AllSupplied packages new
   pub body : IsBody new.types side c
   pub places : places_of c.names ≡ places_of b.names ++ bound
-  pub goes : (naming : Naming) → holds naming (body_in naming old b) (body_in naming new c)
+  pub goes : (numbering : Numbering) → holds numbering (body_in numbering old b) (body_in numbering new c)
 
 -- what a use resolves to
 abbrev pub UseStatementStep : Context → ExternKind → Parts → Parts → Named ItemKind → Lists → Lists → Use → Type 0
 UseStatementStep context side old new root b c u =
     BodyExpands (packages_in context) side old new b c (used_at u.items)
-    (λ naming before after. HasUse (context_of naming context) (scope_of naming old root) side before u after)
+    (λ numbering before after. HasUse (context_of numbering context) (scope_of numbering old root) side before u after)

@@ -3,7 +3,7 @@ ghost use Rattle.std.specs.Prelude.{◌≡◌, ◌++◌, Some, IfOk, OnOk, map, 
 ghost use Rattle.wac_graph_types.specs.Table.{ItemsNamed};
 ghost use Rattle.wac_ast_worlds.specs.Worlds.{world_item_of, interface_decl_of, world_decl_of};
 ghost use Rattle.wac_graph.specs.Means.{declared_count};
-ghost use Rattle.wac_graph.specs.Origin.{Naming};
+ghost use Rattle.wac_graph.specs.Origin.{Numbering};
 ghost use Rattle.wac_resolution_rules.specs.BrokenWorlds.{InterfaceBroken, WorldBroken};
 ghost use Rattle.wac_resolution_rules.specs.Errors.{ErrorSays};
 ghost use Rattle.wac_resolution_rules.specs.TypeStatements.{version_part};
@@ -58,9 +58,9 @@ pub fn interface_decl(
     requires supplied { AllSupplied (packages_in outer.now.context.now) state.old.graph }
     ensures ok { IfOk result (λ k. InterfaceDeclared outer.now.context.now state.old.graph state.new.graph
         (values_of outer.now.root.now) (interface_decl_of decl.now) k) }
-    ensures err { ErrorSays result (λ e. (naming : Naming)
-        → InterfaceBroken (context_of naming outer.now.context.now)
-        (scope_of naming state.old.graph (values_of outer.now.root.now)) (Some decl.now.id.string.now)
+    ensures err { ErrorSays result (λ e. (numbering : Numbering)
+        → InterfaceBroken (context_of numbering outer.now.context.now)
+        (scope_of numbering state.old.graph (values_of outer.now.root.now)) (Some decl.now.id.string.now)
         (declared_count state.old.graph) (interface_decl_of decl.now).items e) }
 {
     let id = declared_id(state.alloc, outer.context, decl.id.string)?;
@@ -87,9 +87,9 @@ fn world_of(
     requires supplied { AllSupplied (packages_in outer.now.context.now) state.old.graph }
     ensures ok { IfOk result (λ k. WorldDeclared outer.now.context.now state.old.graph state.new.graph
         (values_of outer.now.root.now) name.now (map world_item_of items.now) k) }
-    ensures err { ErrorSays result (λ e. (naming : Naming)
-        → WorldBroken (context_of naming outer.now.context.now)
-        (scope_of naming state.old.graph (values_of outer.now.root.now)) name.now (declared_count state.old.graph)
+    ensures err { ErrorSays result (λ e. (numbering : Numbering)
+        → WorldBroken (context_of numbering outer.now.context.now)
+        (scope_of numbering state.old.graph (values_of outer.now.root.now)) name.now (declared_count state.old.graph)
         (map world_item_of items.now) e) }
 {
     let id = declared_id(state.alloc, outer.context, name)?;
@@ -107,9 +107,9 @@ pub fn world_decl(
     requires supplied { AllSupplied (packages_in outer.now.context.now) state.old.graph }
     ensures ok { IfOk result (λ k. WorldDeclared outer.now.context.now state.old.graph state.new.graph
         (values_of outer.now.root.now) decl.now.id.string.now (world_decl_of decl.now).items k) }
-    ensures err { ErrorSays result (λ e. (naming : Naming)
-        → WorldBroken (context_of naming outer.now.context.now)
-        (scope_of naming state.old.graph (values_of outer.now.root.now)) decl.now.id.string.now
+    ensures err { ErrorSays result (λ e. (numbering : Numbering)
+        → WorldBroken (context_of numbering outer.now.context.now)
+        (scope_of numbering state.old.graph (values_of outer.now.root.now)) decl.now.id.string.now
         (declared_count state.old.graph) (world_decl_of decl.now).items e) }
 {
     world_of(items_of(decl), state, outer, decl.id.string)

@@ -6,7 +6,7 @@ ghost use Rattle.wac_graph_types.specs.Table.{ItemsNamed};
 ghost use Rattle.wac_ast_base.specs.Names.{ident_of, package_path_of};
 ghost use Rattle.wac_ast_worlds.specs.Worlds.{extern_type_of, named_world_item_of, world_item_path_of};
 ghost use Rattle.wac_graph.specs.Means.{declared_count};
-ghost use Rattle.wac_graph.specs.Origin.{Naming};
+ghost use Rattle.wac_graph.specs.Origin.{Numbering};
 ghost use Rattle.wac_resolution_rules.specs.BrokenWorlds.{ExternTypeBroken, ExternBroken};
 ghost use Rattle.wac_resolution_rules.specs.Errors.{ErrorSays};
 ghost use Rattle.wac_resolution_rules.specs.Paths as rules;
@@ -43,11 +43,11 @@ fn extern_type(
     requires supplied { AllSupplied (packages_in outer.now.context.now) state.old.graph }
     ensures ok { IfOk result (λ k. ExternMade outer.now.context.now state.old.graph state.new.graph
         (values_of outer.now.root.now) (values_of names.now) (extern_type_of ty.now) k) }
-    ensures err { ErrorSays result (λ e. (naming : Naming)
-        → ExternTypeBroken (context_of naming outer.now.context.now)
-        (scope_of naming state.old.graph (values_of outer.now.root.now))
-        (scope_of naming state.old.graph (values_of names.now)) (declared_count state.old.graph) (extern_type_of ty.now)
-        e) }
+    ensures err { ErrorSays result (λ e. (numbering : Numbering)
+        → ExternTypeBroken (context_of numbering outer.now.context.now)
+        (scope_of numbering state.old.graph (values_of outer.now.root.now))
+        (scope_of numbering state.old.graph (values_of names.now)) (declared_count state.old.graph)
+        (extern_type_of ty.now) e) }
 {
     match ty {
         ExternType::Ident(id) => Ok(named_extern(state.alloc, names, outer.root, id)?),
@@ -76,10 +76,11 @@ fn named_item(
     ensures ok { OnOk result (ExternStep outer.now.context.now section.now.side state.old.graph state.new.graph
         (values_of outer.now.root.now) (lists_of body.old) (lists_of body.new)
         (PathTree.named (named_world_item_of item.now))) }
-    ensures err { ErrorSays result (λ e. (naming : Naming)
-        → ExternBroken (context_of naming outer.now.context.now)
-        (scope_of naming state.old.graph (values_of outer.now.root.now)) (owner_of section.now.owner) section.now.side
-        (body_of naming state.old.graph body.old) (PathTree.named (named_world_item_of item.now)) e) }
+    ensures err { ErrorSays result (λ e. (numbering : Numbering)
+        → ExternBroken (context_of numbering outer.now.context.now)
+        (scope_of numbering state.old.graph (values_of outer.now.root.now)) (owner_of section.now.owner)
+        section.now.side (body_of numbering state.old.graph body.old)
+        (PathTree.named (named_world_item_of item.now)) e) }
 {
     let id = &item.id;
     check_extern(state.alloc, body, section, id.string, id.span)?;
@@ -102,10 +103,10 @@ fn path_item(
     ensures ok { OnOk result (ExternStep outer.now.context.now section.now.side state.old.graph state.new.graph
         (values_of outer.now.root.now) (lists_of body.old) (lists_of body.new)
         (PathTree.path (package_path_of from.now))) }
-    ensures err { ErrorSays result (λ e. (naming : Naming)
-        → ExternBroken (context_of naming outer.now.context.now)
-        (scope_of naming state.old.graph (values_of outer.now.root.now)) (owner_of section.now.owner) section.now.side
-        (body_of naming state.old.graph body.old) (PathTree.path (package_path_of from.now)) e) }
+    ensures err { ErrorSays result (λ e. (numbering : Numbering)
+        → ExternBroken (context_of numbering outer.now.context.now)
+        (scope_of numbering state.old.graph (values_of outer.now.root.now)) (owner_of section.now.owner)
+        section.now.side (body_of numbering state.old.graph body.old) (PathTree.path (package_path_of from.now)) e) }
 {
     let kind = path(state, outer.context, outer.root, from)?;
     let named = NamedKind {
@@ -129,9 +130,9 @@ fn ident_item(
     requires root { ItemsNamed state.now.graph.types (values_of root.now) }
     ensures ok { OnOk result (IdentStep section.now.side state.now.graph (values_of root.now) (lists_of body.old)
         (lists_of body.new) (ident_of id.now)) }
-    ensures err { ErrorSays result (λ e. (naming : Naming) (context : rules.Context)
-        → ExternBroken context (scope_of naming state.now.graph (values_of root.now)) (owner_of section.now.owner)
-        section.now.side (body_of naming state.now.graph body.old) (PathTree.ident (ident_of id.now)) e) }
+    ensures err { ErrorSays result (λ e. (numbering : Numbering) (context : rules.Context)
+        → ExternBroken context (scope_of numbering state.now.graph (values_of root.now)) (owner_of section.now.owner)
+        section.now.side (body_of numbering state.now.graph body.old) (PathTree.ident (ident_of id.now)) e) }
 {
     let kind = kind_of(state.alloc, root, id)?;
     let named = NamedKind {
@@ -156,10 +157,10 @@ pub fn extern_item(
     requires supplied { AllSupplied (packages_in outer.now.context.now) state.old.graph }
     ensures ok { OnOk result (ExternStep outer.now.context.now section.now.side state.old.graph state.new.graph
         (values_of outer.now.root.now) (lists_of body.old) (lists_of body.new) (world_item_path_of item.now)) }
-    ensures err { ErrorSays result (λ e. (naming : Naming)
-        → ExternBroken (context_of naming outer.now.context.now)
-        (scope_of naming state.old.graph (values_of outer.now.root.now)) (owner_of section.now.owner) section.now.side
-        (body_of naming state.old.graph body.old) (world_item_path_of item.now) e) }
+    ensures err { ErrorSays result (λ e. (numbering : Numbering)
+        → ExternBroken (context_of numbering outer.now.context.now)
+        (scope_of numbering state.old.graph (values_of outer.now.root.now)) (owner_of section.now.owner)
+        section.now.side (body_of numbering state.old.graph body.old) (world_item_path_of item.now) e) }
 {
     match item {
         WorldItemPath::Named(item) => named_item(item, state, outer, body, section),

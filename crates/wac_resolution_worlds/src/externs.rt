@@ -4,7 +4,7 @@ ghost use Rattle.wac_ast_grammar.specs.Tree.{ExternType as ExternTree};
 ghost use Rattle.wac_graph_types.specs.Scope.{look_up};
 ghost use Rattle.wac_ast_base.specs.Names.{ident_of};
 ghost use Rattle.wac_graph.specs.Graph.{Parts};
-ghost use Rattle.wac_graph.specs.Origin.{Naming};
+ghost use Rattle.wac_graph.specs.Origin.{Numbering};
 ghost use Rattle.wac_resolution_rules.specs.Paths.{Context};
 ghost use Rattle.wac_resolution_rules.specs.BrokenWorlds.{ExternTypeBroken};
 ghost use Rattle.wac_resolution_rules.specs.Errors.{ErrorSays};
@@ -59,9 +59,9 @@ pub fn named_extern(
     id: &Ident<'_>,
 ) -> Result<ItemKind, Error>
     ensures ok { IfOk result (λ k. ExternNamed (values_of names.now) (values_of root.now) (ident_of id.now) k) }
-    ensures err { ErrorSays result (λ e. (naming : Naming) (g : Parts) (context : Context) (n : ℕ)
-        → ExternTypeBroken context (scope_of naming g (values_of root.now)) (scope_of naming g (values_of names.now)) n
-        (ExternTree.ident (ident_of id.now)) e) }
+    ensures err { ErrorSays result (λ e. (numbering : Numbering) (g : Parts) (context : Context) (n : ℕ)
+        → ExternTypeBroken context (scope_of numbering g (values_of root.now))
+        (scope_of numbering g (values_of names.now)) n (ExternTree.ident (ident_of id.now)) e) }
 {
     match find_in_either(names, root, id.string) {
         Some(kind) => Ok(item_of(alloc, kind, id)?),

@@ -6,7 +6,7 @@ ghost use Rattle.wac_graph_types.specs.Table.{ItemsNamed};
 ghost use Rattle.wac_ast_base.specs.Names.{ident_of};
 ghost use Rattle.wac_ast_types.specs.Declarations.{func_type_of, func_type_ref_of};
 ghost use Rattle.wac_graph.specs.Graph.{Parts};
-ghost use Rattle.wac_graph.specs.Origin.{Naming};
+ghost use Rattle.wac_graph.specs.Origin.{Numbering};
 ghost use Rattle.wac_resolution_rules.specs.BrokenTypes.{FuncBroken};
 ghost use Rattle.wac_resolution_rules.specs.BrokenWorlds.{FuncRefBroken};
 ghost use Rattle.wac_resolution_rules.specs.Errors.{ErrorSays};
@@ -30,8 +30,8 @@ fn named_func(
     id: &Ident<'_>,
 ) -> Result<FuncTypeId, Error>
     ensures ok { IfOk result (λ f. FuncNamed (values_of names.now) (ident_of id.now) f) }
-    ensures err { ErrorSays result (λ e. (naming : Naming) (g : Parts)
-        → FuncRefBroken (scope_of naming g (values_of names.now)) (RefTree.ident (ident_of id.now)) e) }
+    ensures err { ErrorSays result (λ e. (numbering : Numbering) (g : Parts)
+        → FuncRefBroken (scope_of numbering g (values_of names.now)) (RefTree.ident (ident_of id.now)) e) }
 {
     match kind_of(alloc, names, id)? {
         ItemKind::Ty(Type::Func(func)) => Ok(func),
@@ -53,8 +53,9 @@ pub fn new_func(
     requires { ItemsNamed state.old.graph.types (values_of names.now) }
     ensures ok { IfOk result (λ f. NewFunc state.old.graph state.new.graph (values_of names.now)
         (func_type_of func.now) f) }
-    ensures err { ErrorSays result (λ e. (naming : Naming)
-        → FuncBroken funcs.Free (scope_of naming state.old.graph (values_of names.now)) [] (func_type_of func.now) e) }
+    ensures err { ErrorSays result (λ e. (numbering : Numbering)
+        → FuncBroken funcs.Free (scope_of numbering state.old.graph (values_of names.now)) []
+        (func_type_of func.now) e) }
 {
     let first = IndexMap::new(state.alloc);
     Ok(wac_resolution_types::function(func, state, names, FuncKind::Free, first)?)
@@ -69,8 +70,8 @@ pub fn func_ref(
     requires { ItemsNamed state.old.graph.types (values_of names.now) }
     ensures ok { IfOk result (λ f. FuncRefIs state.old.graph state.new.graph (values_of names.now)
         (func_type_ref_of reference.now) f) }
-    ensures err { ErrorSays result (λ e. (naming : Naming)
-        → FuncRefBroken (scope_of naming state.old.graph (values_of names.now)) (func_type_ref_of reference.now) e) }
+    ensures err { ErrorSays result (λ e. (numbering : Numbering)
+        → FuncRefBroken (scope_of numbering state.old.graph (values_of names.now)) (func_type_ref_of reference.now) e) }
 {
     match reference {
         FuncTypeRef::Func(func) => Ok(new_func(func, state, names)?),

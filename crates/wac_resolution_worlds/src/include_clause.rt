@@ -17,7 +17,7 @@ use wac_graph::names::{find, push};
 use wac_resolution_errors::Error;
 
 /// Rejects the name of an earlier entry.
-#[tactic(auto, using(wac_resolution_state::proofs::Scopes::memory_told))]
+#[tactic(auto, using(wac_resolution_state::proofs::Scopes::memory_model))]
 fn check_entry(
     alloc: Global,
     all: &IndexMap<String, &WorldIncludeItem<'_>>,
@@ -37,7 +37,7 @@ fn check_entry(
 }
 
 /// Takes an entry.
-#[tactic(auto, using(wac_resolution_state::proofs::Scopes::memory_told))]
+#[tactic(auto, using(wac_resolution_state::proofs::Scopes::memory_model))]
 fn entry<'x, 'a>(
     alloc: Global,
     all: &mut IndexMap<String, &'x WorldIncludeItem<'a>>,

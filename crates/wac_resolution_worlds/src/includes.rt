@@ -5,7 +5,7 @@ ghost use Rattle.wac_graph_types.specs.Steps.{Fails};
 ghost use Rattle.wac_graph_types.specs.Table.{ItemsNamed};
 ghost use Rattle.wac_ast_worlds.specs.Worlds.{world_item_of};
 ghost use Rattle.wac_ast_uses.specs.Uses.{world_include_of};
-ghost use Rattle.wac_graph.specs.Origin.{Naming};
+ghost use Rattle.wac_graph.specs.Origin.{Numbering};
 ghost use Rattle.wac_resolution_rules.specs.BrokenWorlds.{IncludeBroken};
 ghost use Rattle.wac_resolution_rules.specs.Errors.{ErrorSays};
 ghost use Rattle.wac_resolution_rules.specs.Includes.{HasInclude};
@@ -39,10 +39,10 @@ fn include(
     requires supplied { AllSupplied (packages_in outer.now.context.now) state.old.graph }
     ensures ok { OnOk result (IncludeStep outer.now.context.now state.old.graph state.new.graph
         (values_of outer.now.root.now) (lists_of body.old) (lists_of body.new) (world_include_of include.now)) }
-    ensures err { ErrorSays result (λ e. (naming : Naming) (before : List IncludeTree)
-        → IncludeBroken (context_of naming outer.now.context.now)
-        (scope_of naming state.old.graph (values_of outer.now.root.now)) world.now e
-        (body_of naming state.old.graph body.old) before (world_include_of include.now)) }
+    ensures err { ErrorSays result (λ e. (numbering : Numbering) (before : List IncludeTree)
+        → IncludeBroken (context_of numbering outer.now.context.now)
+        (scope_of numbering state.old.graph (values_of outer.now.root.now)) world.now e
+        (body_of numbering state.old.graph body.old) before (world_include_of include.now)) }
 {
     let renamed = entries(state.alloc, &include.with)?;
     let kind = world_ref(state, outer.context, outer.root, &include.world)?;
@@ -80,11 +80,11 @@ fn include_item(
     ensures ok { OnOk result (IncludeSteps outer.now.context.now state.old.graph state.new.graph
         (values_of outer.now.root.now) (lists_of body.old) (lists_of body.new)
         (includes_of (world_item_of item.now ∷ []))) }
-    ensures err { ErrorSays result (λ e. (naming : Naming) (before : List IncludeTree)
+    ensures err { ErrorSays result (λ e. (numbering : Numbering) (before : List IncludeTree)
         → (x : IncludeTree) × (include_of (world_item_of item.now) ≡ Some x)
-        × IncludeBroken (context_of naming outer.now.context.now)
-        (scope_of naming state.old.graph (values_of outer.now.root.now)) world.now e
-        (body_of naming state.old.graph body.old) before x) }
+        × IncludeBroken (context_of numbering outer.now.context.now)
+        (scope_of numbering state.old.graph (values_of outer.now.root.now)) world.now e
+        (body_of numbering state.old.graph body.old) before x) }
 {
     match include_in(item) {
         Some(clause) => {
@@ -109,12 +109,12 @@ pub fn includes(
     ensures ok { OnOk result (IncludeSteps outer.now.context.now state.old.graph state.new.graph
         (values_of outer.now.root.now) (lists_of body.old) (lists_of body.new)
         (includes_of (map world_item_of items.now))) }
-    ensures err { ErrorSays result (λ e. (naming : Naming)
-        → Fails (HasInclude (context_of naming outer.now.context.now)
-        (scope_of naming state.old.graph (values_of outer.now.root.now)))
-        (IncludeBroken (context_of naming outer.now.context.now)
-        (scope_of naming state.old.graph (values_of outer.now.root.now)) world.now e)
-        (body_of naming state.old.graph body.old) (includes_of (map world_item_of items.now))) }
+    ensures err { ErrorSays result (λ e. (numbering : Numbering)
+        → Fails (HasInclude (context_of numbering outer.now.context.now)
+        (scope_of numbering state.old.graph (values_of outer.now.root.now)))
+        (IncludeBroken (context_of numbering outer.now.context.now)
+        (scope_of numbering state.old.graph (values_of outer.now.root.now)) world.now e)
+        (body_of numbering state.old.graph body.old) (includes_of (map world_item_of items.now))) }
 {
     for item in items {
         include_item(item, state, outer, body, world)?;

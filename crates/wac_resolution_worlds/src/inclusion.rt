@@ -5,7 +5,7 @@ ghost use Rattle.wac_graph_types.specs.Names.{by_name};
 ghost use Rattle.wac_graph_types.specs.Scope.{IsFresh};
 ghost use Rattle.wac_graph.specs.Graph.{Parts};
 ghost use Rattle.wac_graph.specs.Means.{means};
-ghost use Rattle.wac_graph.specs.Origin.{Naming};
+ghost use Rattle.wac_graph.specs.Origin.{Numbering};
 ghost use Rattle.wac_resolution_rules.specs.Includes.{has_colon, name_taken as taken_name};
 ghost use Rattle.wac_resolution_rules.specs.BrokenWorlds.{span_taken as taken_span, help_of_include, IsIncludeConflict, IsLeftOver, IsNoWorld};
 ghost use Rattle.wac_resolution_rules.specs.Errors.{ErrorSays};
@@ -63,7 +63,7 @@ impl<'x, 'a> Inclusion<'x, 'a> {
     }
 
     /// Rejects a name without a colon that is taken, after it is renamed.
-    #[tactic(auto, using(wac_resolution_state::proofs::Scopes::memory_told))]
+    #[tactic(auto, using(wac_resolution_state::proofs::Scopes::memory_model))]
     pub(crate) fn check_taken(
         &self,
         side: ExternKind,
@@ -75,9 +75,9 @@ impl<'x, 'a> Inclusion<'x, 'a> {
         requires plain { has_colon name.now ≡ false }
         ensures ok { OnOk result (IsFresh (taken_name (entries_of (by_name entries.now.entries)) name.now)
             (by_name there.now.entries)) }
-        ensures err { ErrorSays result (λ e. (naming : Naming) (g : Parts) (before : List (List ℕ × Meaning))
+        ensures err { ErrorSays result (λ e. (numbering : Numbering) (g : Parts) (before : List (List ℕ × Meaning))
             (m : Meaning) → IsIncludeConflict (tree_of self.now) self.now.world.now side e
-            (taking_of naming g (by_name entries.now.entries) (by_name there.now.entries)) before (name.now, m)) }
+            (taking_of numbering g (by_name entries.now.entries) (by_name there.now.entries)) before (name.now, m)) }
     {
         let taken = name_taken(entries, name);
         match find(there, taken) {
@@ -94,7 +94,7 @@ impl<'x, 'a> Inclusion<'x, 'a> {
     }
 
     /// Rejects the first entry that is left over.
-    #[tactic(auto, using(wac_resolution_state::proofs::Scopes::memory_told))]
+    #[tactic(auto, using(wac_resolution_state::proofs::Scopes::memory_model))]
     pub(crate) fn check_left(
         &self,
         entries: &IndexMap<String, &'x WorldIncludeItem<'a>>,
@@ -118,8 +118,8 @@ impl<'x, 'a> Inclusion<'x, 'a> {
     #[tactic(auto, using(crate::proofs::IncludedWorlds::worlds_told))]
     pub(crate) fn world_of(&self, kind: ItemKind) -> Result<WorldId, Error>
         ensures ok { IfOk result (λ w. IsWorldKind kind w) }
-        ensures err { ErrorSays result (λ e. (naming : Naming) (g : Parts)
-            → IsNoWorld (means naming g kind) (tree_of self.now).world e) }
+        ensures err { ErrorSays result (λ e. (numbering : Numbering) (g : Parts)
+            → IsNoWorld (means numbering g kind) (tree_of self.now).world e) }
     {
         match kind {
             ItemKind::Ty(Type::World(world)) => Ok(world),

@@ -5,7 +5,7 @@ ghost use Rattle.wac_graph_types.specs.declared.kind.ItemKind.TheVariants as kin
 ghost use Rattle.wac_graph_types.specs.Shape.{id_of};
 ghost use Rattle.wac_graph_types.specs.Table.{Names};
 ghost use Rattle.wac_graph.specs.Means.{means, entry_means};
-ghost use Rattle.wac_graph.specs.Origin.{Naming};
+ghost use Rattle.wac_graph.specs.Origin.{Numbering};
 ghost use Rattle.wac_resolution_rules.specs.BrokenWorlds.{InstanceBroken};
 ghost use Rattle.wac_resolution_rules.specs.Errors.{ErrorSays};
 ghost use Rattle.wac_resolution_types.specs.Lists.{lists_of};
@@ -44,7 +44,8 @@ fn text_or_empty(text: &Option<String>) -> &str
 /// The id of an interface, under which it is imported or exported as an instance. It is empty for one without an id.
 pub fn instance_id(graph: &CompositionGraph, interface: InterfaceId) -> &str
     requires { Names graph.now.types (kinds.Instance interface) }
-    ensures { (naming : Naming) → result.now ≡ unwrap_or (id_of (entry_means naming graph.now interface.0)) [] }
+    ensures { (numbering : Numbering)
+        → result.now ≡ unwrap_or (id_of (entry_means numbering graph.now interface.0)) [] }
 {
     match graph.types().interface(interface) {
         Some(interface) => text_or_empty(&interface.id),
@@ -63,9 +64,9 @@ pub fn instance(
     requires kind { Names state.now.graph.types named.now.kind }
     ensures ok { OnOk result (InstanceStep state.now.graph section.now.side named.now.kind (lists_of body.old)
         (lists_of body.new)) }
-    ensures err { ErrorSays result (λ e. (naming : Naming)
-        → InstanceBroken (owner_of section.now.owner) section.now.side (body_of naming state.now.graph body.old)
-        (means naming state.now.graph named.now.kind) named.now.text.now named.now.span e) }
+    ensures err { ErrorSays result (λ e. (numbering : Numbering)
+        → InstanceBroken (owner_of section.now.owner) section.now.side (body_of numbering state.now.graph body.old)
+        (means numbering state.now.graph named.now.kind) named.now.text.now named.now.span e) }
 {
     let interface = interface_of(state.alloc, named.kind, named.text, named.span)?;
     let id = instance_id(&state.graph, interface);

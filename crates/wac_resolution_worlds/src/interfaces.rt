@@ -7,7 +7,7 @@ ghost use Rattle.wac_graph_types.specs.Steps.{Fails};
 ghost use Rattle.wac_graph_types.specs.Table.{ItemsNamed};
 ghost use Rattle.wac_ast_worlds.specs.Worlds.{interface_export_of, interface_item_of};
 ghost use Rattle.wac_graph.specs.Means.{declared_count};
-ghost use Rattle.wac_graph.specs.Origin.{Naming};
+ghost use Rattle.wac_graph.specs.Origin.{Numbering};
 ghost use Rattle.wac_resolution_rules.specs.BrokenWorlds.{InterfaceItemBroken, InterfaceBroken};
 ghost use Rattle.wac_resolution_rules.specs.Errors.{ErrorSays};
 ghost use Rattle.wac_resolution_rules.specs.Paths as rules;
@@ -42,9 +42,9 @@ fn interface_export(
     requires { IsBody state.old.graph.types sides.Export (lists_of body.old) }
     ensures ok { OnOk result (FuncExportStep state.old.graph state.new.graph (lists_of body.old) (lists_of body.new)
         (interface_export_of export.now)) }
-    ensures err { ErrorSays result (λ e. (naming : Naming) (context : rules.Context) (root : Scope)
+    ensures err { ErrorSays result (λ e. (numbering : Numbering) (context : rules.Context) (root : Scope)
         (before : List ItemTree)
-        → InterfaceItemBroken context root (owner_of owner.now) e (body_of naming state.old.graph body.old) before
+        → InterfaceItemBroken context root (owner_of owner.now) e (body_of numbering state.old.graph body.old) before
         (ItemTree.interface_export (interface_export_of export.now))) }
 {
     let func = func_ref(&export.ty, state, &body.names)?;
@@ -76,11 +76,11 @@ fn interface_item<'a>(
     requires supplied { AllSupplied (packages_in outer.now.context.now) state.old.graph }
     ensures ok { OnOk result (InterfaceItemStep outer.now.context.now state.old.graph state.new.graph
         (values_of outer.now.root.now) (lists_of body.old) (lists_of body.new) (interface_item_of item.now)) }
-    ensures err { ErrorSays result (λ e. (naming : Naming) (before : List ItemTree)
+    ensures err { ErrorSays result (λ e. (numbering : Numbering) (before : List ItemTree)
         → places_of body.old.names ≡ bound_in_interface before
-        → InterfaceItemBroken (context_of naming outer.now.context.now)
-        (scope_of naming state.old.graph (values_of outer.now.root.now)) (owner_of owner.now) e
-        (body_of naming state.old.graph body.old) before (interface_item_of item.now)) }
+        → InterfaceItemBroken (context_of numbering outer.now.context.now)
+        (scope_of numbering state.old.graph (values_of outer.now.root.now)) (owner_of owner.now) e
+        (body_of numbering state.old.graph body.old) before (interface_item_of item.now)) }
 {
     match item {
         InterfaceItem::Use(used) => use_statement(used, state, outer, body, ExternKind::Export),
@@ -108,12 +108,12 @@ fn interface_items<'a>(
     requires supplied { AllSupplied (packages_in outer.now.context.now) state.old.graph }
     ensures ok { OnOk result (InterfaceItemSteps outer.now.context.now state.old.graph state.new.graph
         (values_of outer.now.root.now) (lists_of body.old) (lists_of body.new) (map interface_item_of items.now)) }
-    ensures err { ErrorSays result (λ e. (naming : Naming)
-        → Fails (HasInterfaceItem (context_of naming outer.now.context.now)
-        (scope_of naming state.old.graph (values_of outer.now.root.now)))
-        (InterfaceItemBroken (context_of naming outer.now.context.now)
-        (scope_of naming state.old.graph (values_of outer.now.root.now)) (owner_of owner.now) e)
-        (body_of naming state.old.graph body.old) (map interface_item_of items.now)) }
+    ensures err { ErrorSays result (λ e. (numbering : Numbering)
+        → Fails (HasInterfaceItem (context_of numbering outer.now.context.now)
+        (scope_of numbering state.old.graph (values_of outer.now.root.now)))
+        (InterfaceItemBroken (context_of numbering outer.now.context.now)
+        (scope_of numbering state.old.graph (values_of outer.now.root.now)) (owner_of owner.now) e)
+        (body_of numbering state.old.graph body.old) (map interface_item_of items.now)) }
 {
     for item in items {
         interface_item(item, state, outer, body, owner)?;
@@ -147,9 +147,9 @@ pub fn interface(
     requires supplied { AllSupplied (packages_in outer.now.context.now) state.old.graph }
     ensures ok { IfOk result (λ i. InterfaceMade outer.now.context.now state.old.graph state.new.graph
         (values_of outer.now.root.now) (option_map string_bytes id) (map interface_item_of items.now) i) }
-    ensures err { ErrorSays result (λ e. (naming : Naming)
-        → InterfaceBroken (context_of naming outer.now.context.now)
-        (scope_of naming state.old.graph (values_of outer.now.root.now)) (option_map (λ n. n.now) name.entry)
+    ensures err { ErrorSays result (λ e. (numbering : Numbering)
+        → InterfaceBroken (context_of numbering outer.now.context.now)
+        (scope_of numbering state.old.graph (values_of outer.now.root.now)) (option_map (λ n. n.now) name.entry)
         (declared_count state.old.graph) (map interface_item_of items.now) e) }
 {
     let mut body = Body::new(state.alloc);

@@ -10,7 +10,7 @@ ghost use Rattle.wac_graph_types.specs.Steps.{Fails};
 ghost use Rattle.wac_graph_types.specs.Table.{Names};
 ghost use Rattle.wac_graph.specs.Graph.{Parts};
 ghost use Rattle.wac_graph.specs.Means.{means, entry_means};
-ghost use Rattle.wac_graph.specs.Origin.{Naming};
+ghost use Rattle.wac_graph.specs.Origin.{Numbering};
 ghost use Rattle.wac_resolution_rules.specs.Bodies.{Body};
 ghost use Rattle.wac_resolution_rules.specs.Includes.{Takes};
 ghost use Rattle.wac_resolution_rules.specs.BrokenWorlds.{IsIncludeConflict, IsNoWorld, TakingBroken};
@@ -47,10 +47,10 @@ impl<'x, 'a> Inclusion<'x, 'a> {
         ensures ok { OnOk result (NameTaken (clause_of self.now) (by_name entries.old.entries)
             (by_name entries.new.entries) (by_name there.old.entries)
             (by_name there.new.entries) (taken.now.name.now, taken.now.kind)) }
-        ensures err { ErrorSays result (λ e. (naming : Naming) (g : Parts) (before : List (List ℕ × Meaning))
+        ensures err { ErrorSays result (λ e. (numbering : Numbering) (g : Parts) (before : List (List ℕ × Meaning))
             → IsIncludeConflict (tree_of self.now) self.now.world.now side e
-            (taking_of naming g (by_name entries.old.entries) (by_name there.old.entries)) before
-            (taken.now.name.now, means naming g taken.now.kind)) }
+            (taking_of numbering g (by_name entries.old.entries) (by_name there.old.entries)) before
+            (taken.now.name.now, means numbering g taken.now.kind)) }
     {
         if has_colon(taken.name) {
             add_missing(self.alloc, there, taken.name, taken.kind)?;
@@ -73,10 +73,10 @@ impl<'x, 'a> Inclusion<'x, 'a> {
         ensures ok { OnOk result (NamesTaken (clause_of self.now) (by_name entries.old.entries)
             (by_name entries.new.entries) (by_name there.old.entries) (by_name there.new.entries)
             (by_name names.now.entries)) }
-        ensures err { ErrorSays result (λ e. (naming : Naming) (g : Parts)
+        ensures err { ErrorSays result (λ e. (numbering : Numbering) (g : Parts)
             → Fails Takes (IsIncludeConflict (tree_of self.now) self.now.world.now side e)
-            (taking_of naming g (by_name entries.old.entries) (by_name there.old.entries))
-            (items_mean (entry_means naming g) (by_name names.now.entries))) }
+            (taking_of numbering g (by_name entries.old.entries) (by_name there.old.entries))
+            (items_mean (entry_means numbering g) (by_name names.now.entries))) }
     {
         for (name, kind) in names.iter() {
             let taken = Extern {
@@ -99,10 +99,10 @@ impl<'x, 'a> Inclusion<'x, 'a> {
         ensures ok { OnOk result (NamesTaken (clause_of self.now) (by_name entries.old.entries)
             (by_name entries.new.entries) (by_name imports.old.entries) (by_name imports.new.entries)
             (world_imports self.now.graph.now.types world.0)) }
-        ensures err { ErrorSays result (λ e. (naming : Naming) (g : Parts)
+        ensures err { ErrorSays result (λ e. (numbering : Numbering) (g : Parts)
             → Fails Takes (IsIncludeConflict (tree_of self.now) self.now.world.now sides.Import e)
-            (taking_of naming g (by_name entries.old.entries) (by_name imports.old.entries))
-            (items_mean (entry_means naming g) (world_imports self.now.graph.now.types world.0))) }
+            (taking_of numbering g (by_name entries.old.entries) (by_name imports.old.entries))
+            (items_mean (entry_means numbering g) (world_imports self.now.graph.now.types world.0))) }
     {
         match self.graph.types().imports(world) {
             Some(names) => self.take_names(ExternKind::Import, entries, imports, names),
@@ -121,10 +121,10 @@ impl<'x, 'a> Inclusion<'x, 'a> {
         ensures ok { OnOk result (NamesTaken (clause_of self.now) (by_name entries.old.entries)
             (by_name entries.new.entries) (by_name exports.old.entries) (by_name exports.new.entries)
             (world_exports self.now.graph.now.types world.0)) }
-        ensures err { ErrorSays result (λ e. (naming : Naming) (g : Parts)
+        ensures err { ErrorSays result (λ e. (numbering : Numbering) (g : Parts)
             → Fails Takes (IsIncludeConflict (tree_of self.now) self.now.world.now sides.Export e)
-            (taking_of naming g (by_name entries.old.entries) (by_name exports.old.entries))
-            (items_mean (entry_means naming g) (world_exports self.now.graph.now.types world.0))) }
+            (taking_of numbering g (by_name entries.old.entries) (by_name exports.old.entries))
+            (items_mean (entry_means numbering g) (world_exports self.now.graph.now.types world.0))) }
     {
         match self.graph.types().exports(ItemKind::Component(world)) {
             Some(names) => self.take_names(ExternKind::Export, entries, exports, names),
@@ -145,10 +145,10 @@ impl<'x, 'a> Inclusion<'x, 'a> {
         ensures ok { OnOk result (WorldTaken self.now.graph.now (entries_of (by_name entries.entry.entries)) world
             (by_name imports.old.entries) (by_name exports.old.entries) (by_name imports.new.entries)
             (by_name exports.new.entries)) }
-        ensures err { ErrorSays result (λ e. (naming : Naming) (b : Body)
+        ensures err { ErrorSays result (λ e. (numbering : Numbering) (b : Body)
             → TakingBroken (tree_of self.now) self.now.world.now (entries_of (by_name entries.entry.entries))
-            (entry_means naming self.now.graph.now world.0)
-            (with_both naming self.now.graph.now b (by_name imports.old.entries) (by_name exports.old.entries)) e) }
+            (entry_means numbering self.now.graph.now world.0)
+            (with_both numbering self.now.graph.now b (by_name imports.old.entries) (by_name exports.old.entries)) e) }
     {
         let mut left = entries;
         // Its contract says that the table is sound, and what its entries mean.
@@ -172,12 +172,12 @@ impl<'x, 'a> Inclusion<'x, 'a> {
         ensures ok { OnOk result (IsIncluded self.now.graph.now (entries_of (by_name entries.entry.entries)) kind
             (by_name imports.old.entries) (by_name exports.old.entries) (by_name imports.new.entries)
             (by_name exports.new.entries)) }
-        ensures err { ErrorSays result (λ e. (naming : Naming) (b : Body)
-            → IsNoWorld (means naming self.now.graph.now kind) (tree_of self.now).world e
-            ⊎ (IsA is_world_form (means naming self.now.graph.now kind)
+        ensures err { ErrorSays result (λ e. (numbering : Numbering) (b : Body)
+            → IsNoWorld (means numbering self.now.graph.now kind) (tree_of self.now).world e
+            ⊎ (IsA is_world_form (means numbering self.now.graph.now kind)
             × TakingBroken (tree_of self.now) self.now.world.now (entries_of (by_name entries.entry.entries))
-            (entry_of (means naming self.now.graph.now kind))
-            (with_both naming self.now.graph.now b (by_name imports.old.entries) (by_name exports.old.entries)) e)) }
+            (entry_of (means numbering self.now.graph.now kind))
+            (with_both numbering self.now.graph.now b (by_name imports.old.entries) (by_name exports.old.entries)) e)) }
     {
         let world = self.world_of(kind)?;
         self.take_world(world, entries, imports, exports)?;

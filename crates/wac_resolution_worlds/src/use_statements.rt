@@ -2,7 +2,7 @@
 ghost use Rattle.std.specs.Prelude.{IfOk, OnOk};
 ghost use Rattle.wac_graph_types.specs.Table.{ItemsNamed};
 ghost use Rattle.wac_ast_uses.specs.Uses.{use_of, use_path_of};
-ghost use Rattle.wac_graph.specs.Origin.{Naming};
+ghost use Rattle.wac_graph.specs.Origin.{Numbering};
 ghost use Rattle.wac_resolution_rules.specs.BrokenBodies.{UseBroken};
 ghost use Rattle.wac_resolution_rules.specs.Errors.{ErrorSays};
 ghost use Rattle.wac_resolution_state.specs.Bindings.{values_of};
@@ -33,9 +33,9 @@ fn used_interface(
     requires supplied { AllSupplied (packages_in outer.now.context.now) state.old.graph }
     ensures ok { IfOk result (λ i. IsInterface outer.now.context.now state.old.graph state.new.graph
         (values_of outer.now.root.now) (use_path_of path.now) i) }
-    ensures err { ErrorSays result (λ e. (naming : Naming)
-        → IsNoneNamed (context_of naming outer.now.context.now)
-        (scope_of naming state.old.graph (values_of outer.now.root.now)) (use_path_of path.now) e) }
+    ensures err { ErrorSays result (λ e. (numbering : Numbering)
+        → IsNoneNamed (context_of numbering outer.now.context.now)
+        (scope_of numbering state.old.graph (values_of outer.now.root.now)) (use_path_of path.now) e) }
 {
     let kind = use_path(state, outer.context, outer.root, path)?;
     let name = path_name(path);
@@ -56,10 +56,10 @@ pub(crate) fn use_statement<'a>(
     requires supplied { AllSupplied (packages_in outer.now.context.now) state.old.graph }
     ensures ok { OnOk result (UseStatementStep outer.now.context.now side state.old.graph state.new.graph
         (values_of outer.now.root.now) (lists_of body.old) (lists_of body.new) (use_of statement.now)) }
-    ensures err { ErrorSays result (λ e. (naming : Naming)
-        → UseBroken (context_of naming outer.now.context.now)
-        (scope_of naming state.old.graph (values_of outer.now.root.now)) side (body_of naming state.old.graph body.old)
-        (use_of statement.now) e) }
+    ensures err { ErrorSays result (λ e. (numbering : Numbering)
+        → UseBroken (context_of numbering outer.now.context.now)
+        (scope_of numbering state.old.graph (values_of outer.now.root.now)) side
+        (body_of numbering state.old.graph body.old) (use_of statement.now) e) }
 {
     let interface = used_interface(state, outer, &statement.path)?;
     let path = path_name(&statement.path);

@@ -3,7 +3,7 @@ ghost use Rattle.std.specs.Prelude.{◌≡◌, IfOk};
 ghost use Rattle.wac_ast_uses.specs.Uses.{use_path_of};
 ghost use Rattle.wac_graph.specs.Graph.{Parts};
 ghost use Rattle.wac_graph.specs.Means.{means};
-ghost use Rattle.wac_graph.specs.Origin.{Naming};
+ghost use Rattle.wac_graph.specs.Origin.{Numbering};
 ghost use Rattle.wac_resolution_rules.specs.BrokenBodies.{IsNoInterface};
 ghost use Rattle.wac_resolution_rules.specs.Errors.{ErrorSays};
 ghost use Rattle.wac_resolution_rules.specs.Spans.{use_path_name, use_path_span};
@@ -43,8 +43,8 @@ pub(crate) fn interface_of(
     span: SourceSpan,
 ) -> Result<InterfaceId, Error>
     ensures ok { IfOk result (λ i. kind ≡ ItemKind.Ty (Type.Interface i)) }
-    ensures err { ErrorSays result (λ e. (naming : Naming) (g : Parts)
-        → IsNoInterface (means naming g kind) name.now span e) }
+    ensures err { ErrorSays result (λ e. (numbering : Numbering) (g : Parts)
+        → IsNoInterface (means numbering g kind) name.now span e) }
 {
     match kind {
         ItemKind::Ty(Type::Interface(interface)) => Ok(interface),

@@ -7,7 +7,7 @@ ghost use Rattle.wac_ast_base.specs.Names.{ident_of};
 ghost use Rattle.wac_ast_uses.specs.Uses.{use_item_of};
 ghost use Rattle.wac_graph.specs.Graph.{Parts};
 ghost use Rattle.wac_graph.specs.Means.{means};
-ghost use Rattle.wac_graph.specs.Origin.{Naming};
+ghost use Rattle.wac_graph.specs.Origin.{Numbering};
 ghost use Rattle.wac_resolution_rules.specs.Bodies.{used_as as used_by, renamed_from};
 ghost use Rattle.wac_resolution_rules.specs.BrokenBodies.{help_unless, IsNoTypeThere, IsNoUsableType, IsUseConflict};
 ghost use Rattle.wac_resolution_rules.specs.Errors.{ErrorSays};
@@ -66,8 +66,8 @@ fn help_of_use(item: &UseItem<'_>) -> Option<&'static str>
 fn exported(state: &State, used: &UsedInterface<'_>, item: &UseItem<'_>) -> Result<ItemKind, Error>
     requires { NamesEntry state.now.graph.types (kinds.Instance used.now.interface) }
     ensures ok { IfOk result (λ k. IsThere state.now.graph used.now.interface (use_item_of item.now) k) }
-    ensures err { ErrorSays result (λ e. (naming : Naming)
-        → IsNoTypeThere (means naming state.now.graph (kinds.Instance used.now.interface)) used.now.path.now
+    ensures err { ErrorSays result (λ e. (numbering : Numbering)
+        → IsNoTypeThere (means numbering state.now.graph (kinds.Instance used.now.interface)) used.now.path.now
         (use_item_of item.now) e) }
 {
     match state
@@ -92,10 +92,10 @@ pub(crate) fn used_kind(
 ) -> Result<ItemKind, Error>
     requires { NamesEntry state.now.graph.types (kinds.Instance used.now.interface) }
     ensures ok { IfOk result (λ k. IsUsed state.now.graph used.now.interface (use_item_of item.now) k) }
-    ensures err { ErrorSays result (λ e. (naming : Naming)
-        → IsNoTypeThere (means naming state.now.graph (kinds.Instance used.now.interface)) used.now.path.now
+    ensures err { ErrorSays result (λ e. (numbering : Numbering)
+        → IsNoTypeThere (means numbering state.now.graph (kinds.Instance used.now.interface)) used.now.path.now
         (use_item_of item.now) e
-        ⊎ IsNoUsableType (means naming state.now.graph (kinds.Instance used.now.interface)) used.now.path.now
+        ⊎ IsNoUsableType (means numbering state.now.graph (kinds.Instance used.now.interface)) used.now.path.now
         (use_item_of item.now) e) }
 {
     match exported(state, used, item)? {
@@ -118,8 +118,8 @@ pub(crate) fn check_use(
     item: &UseItem<'_>,
 ) -> Result<(), Error>
     ensures ok { OnOk result (IsFresh (used_by (use_item_of item.now)).string (kinds_of side (lists_of body.now))) }
-    ensures err { ErrorSays result (λ e. (naming : Naming) (g : Parts)
-        → IsUseConflict side (body_of naming g body.now) (use_item_of item.now) e) }
+    ensures err { ErrorSays result (λ e. (numbering : Numbering) (g : Parts)
+        → IsUseConflict side (body_of numbering g body.now) (use_item_of item.now) e) }
 {
     let id = used_as(item);
     match body.find(side, id.string) {

@@ -6,7 +6,7 @@ ghost use Rattle.wac_graph_types.specs.Steps.{Fails};
 ghost use Rattle.wac_graph_types.specs.Table.{Names as NamesEntry};
 ghost use Rattle.wac_ast_uses.specs.Uses.{use_item_of};
 ghost use Rattle.wac_graph.specs.Means.{means};
-ghost use Rattle.wac_graph.specs.Origin.{Naming};
+ghost use Rattle.wac_graph.specs.Origin.{Numbering};
 ghost use Rattle.wac_resolution_rules.specs.Bodies.{UsesItem};
 ghost use Rattle.wac_resolution_rules.specs.BrokenBodies.{UseItemBroken};
 ghost use Rattle.wac_resolution_rules.specs.Errors.{ErrorSays};
@@ -33,9 +33,9 @@ fn use_item<'a>(
     requires interface { NamesEntry state.now.graph.types (kinds.Instance used.now.interface) }
     ensures ok { OnOk result (UseStep side state.now.graph used.now.interface (lists_of body.old) (lists_of body.new)
         (use_item_of item.now)) }
-    ensures err { ErrorSays result (λ e. (naming : Naming) (before : List ItemTree)
-        → UseItemBroken side (means naming state.now.graph (kinds.Instance used.now.interface)) used.now.path.now e
-        (body_of naming state.now.graph body.old) before (use_item_of item.now)) }
+    ensures err { ErrorSays result (λ e. (numbering : Numbering) (before : List ItemTree)
+        → UseItemBroken side (means numbering state.now.graph (kinds.Instance used.now.interface)) used.now.path.now e
+        (body_of numbering state.now.graph body.old) before (use_item_of item.now)) }
 {
     let kind = used_kind(state, used, item)?;
     check_use(state.alloc, body, side, item)?;
@@ -59,10 +59,10 @@ pub(crate) fn use_items<'a>(
     requires interface { NamesEntry state.now.graph.types (kinds.Instance used.now.interface) }
     ensures ok { OnOk result (UseSteps side state.now.graph used.now.interface (lists_of body.old) (lists_of body.new)
         (map use_item_of items.now)) }
-    ensures err { ErrorSays result (λ e. (naming : Naming)
-        → Fails (UsesItem side (means naming state.now.graph (kinds.Instance used.now.interface)))
-        (UseItemBroken side (means naming state.now.graph (kinds.Instance used.now.interface)) used.now.path.now e)
-        (body_of naming state.now.graph body.old) (map use_item_of items.now)) }
+    ensures err { ErrorSays result (λ e. (numbering : Numbering)
+        → Fails (UsesItem side (means numbering state.now.graph (kinds.Instance used.now.interface)))
+        (UseItemBroken side (means numbering state.now.graph (kinds.Instance used.now.interface)) used.now.path.now e)
+        (body_of numbering state.now.graph body.old) (map use_item_of items.now)) }
 {
     for item in items {
         use_item(state, body, side, used, item)?;

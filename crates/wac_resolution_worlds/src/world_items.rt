@@ -5,7 +5,7 @@ ghost use Rattle.wac_graph_types.specs.declared.kind.ExternKind.TheVariants as s
 ghost use Rattle.wac_graph_types.specs.Steps.{Fails};
 ghost use Rattle.wac_graph_types.specs.Table.{ItemsNamed};
 ghost use Rattle.wac_ast_worlds.specs.Worlds.{world_item_of};
-ghost use Rattle.wac_graph.specs.Origin.{Naming};
+ghost use Rattle.wac_graph.specs.Origin.{Numbering};
 ghost use Rattle.wac_resolution_rules.specs.BrokenWorlds.{WorldItemBroken};
 ghost use Rattle.wac_resolution_rules.specs.Errors.{ErrorSays};
 ghost use Rattle.wac_resolution_rules.specs.Places.{bound_in_world};
@@ -42,11 +42,11 @@ fn world_item<'a>(
     requires supplied { AllSupplied (packages_in outer.now.context.now) state.old.graph }
     ensures ok { OnOk result (WorldItemStep outer.now.context.now state.old.graph state.new.graph
         (values_of outer.now.root.now) (lists_of body.old) (lists_of body.new) (world_item_of item.now)) }
-    ensures err { ErrorSays result (λ e. (naming : Naming) (before : List ItemTree)
+    ensures err { ErrorSays result (λ e. (numbering : Numbering) (before : List ItemTree)
         → places_of body.old.names ≡ bound_in_world before
-        → WorldItemBroken (context_of naming outer.now.context.now)
-        (scope_of naming state.old.graph (values_of outer.now.root.now)) (owner_of owner.now) e
-        (body_of naming state.old.graph body.old) before (world_item_of item.now)) }
+        → WorldItemBroken (context_of numbering outer.now.context.now)
+        (scope_of numbering state.old.graph (values_of outer.now.root.now)) (owner_of owner.now) e
+        (body_of numbering state.old.graph body.old) before (world_item_of item.now)) }
 {
     match item {
         WorldItem::Use(used) => use_statement(used, state, outer, body, ExternKind::Import),
@@ -88,12 +88,12 @@ pub fn world_items<'a>(
     requires supplied { AllSupplied (packages_in outer.now.context.now) state.old.graph }
     ensures ok { OnOk result (WorldItemSteps outer.now.context.now state.old.graph state.new.graph
         (values_of outer.now.root.now) (lists_of body.old) (lists_of body.new) (map world_item_of items.now)) }
-    ensures err { ErrorSays result (λ e. (naming : Naming)
-        → Fails (HasWorldItem (context_of naming outer.now.context.now)
-        (scope_of naming state.old.graph (values_of outer.now.root.now)))
-        (WorldItemBroken (context_of naming outer.now.context.now)
-        (scope_of naming state.old.graph (values_of outer.now.root.now)) (owner_of owner.now) e)
-        (body_of naming state.old.graph body.old) (map world_item_of items.now)) }
+    ensures err { ErrorSays result (λ e. (numbering : Numbering)
+        → Fails (HasWorldItem (context_of numbering outer.now.context.now)
+        (scope_of numbering state.old.graph (values_of outer.now.root.now)))
+        (WorldItemBroken (context_of numbering outer.now.context.now)
+        (scope_of numbering state.old.graph (values_of outer.now.root.now)) (owner_of owner.now) e)
+        (body_of numbering state.old.graph body.old) (map world_item_of items.now)) }
 {
     for item in items {
         world_item(item, state, outer, body, owner)?;

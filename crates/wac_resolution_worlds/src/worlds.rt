@@ -3,7 +3,7 @@ ghost use Rattle.std.specs.Prelude.{IfOk, map, option_map, string_bytes};
 ghost use Rattle.wac_graph_types.specs.Table.{ItemsNamed};
 ghost use Rattle.wac_ast_worlds.specs.Worlds.{world_item_of};
 ghost use Rattle.wac_graph.specs.Means.{declared_count};
-ghost use Rattle.wac_graph.specs.Origin.{Naming};
+ghost use Rattle.wac_graph.specs.Origin.{Numbering};
 ghost use Rattle.wac_resolution_rules.specs.BrokenWorlds.{WorldBroken};
 ghost use Rattle.wac_resolution_rules.specs.Errors.{ErrorSays};
 ghost use Rattle.wac_resolution_state.specs.Bindings.{values_of};
@@ -59,9 +59,9 @@ pub fn world(
     requires supplied { AllSupplied (packages_in outer.now.context.now) state.old.graph }
     ensures ok { IfOk result (λ w. WorldMade outer.now.context.now state.old.graph state.new.graph
         (values_of outer.now.root.now) (option_map string_bytes id) (map world_item_of items.now) w) }
-    ensures err { ErrorSays result (λ e. (naming : Naming)
-        → WorldBroken (context_of naming outer.now.context.now)
-        (scope_of naming state.old.graph (values_of outer.now.root.now)) name.now (declared_count state.old.graph)
+    ensures err { ErrorSays result (λ e. (numbering : Numbering)
+        → WorldBroken (context_of numbering outer.now.context.now)
+        (scope_of numbering state.old.graph (values_of outer.now.root.now)) name.now (declared_count state.old.graph)
         (map world_item_of items.now) e) }
 {
     let mut body = Body::new(state.alloc);

@@ -3,16 +3,16 @@ use Rattle.wac_tool.proofs.Common.{◌≡◌, ℕ, suc, List, [], ◌∷◌, ◌
 use Rattle.wac_ast.specs.declared.document.Document.{Document as CodeDocument}
 use Rattle.wac_graph.specs.Graph.{Parts}
 use Rattle.wac_graph.specs.Node.{Node as GraphNode, arguments_in}
-use Rattle.wac_graph.specs.Origin.{Naming}
+use Rattle.wac_graph.specs.Origin.{Numbering}
 use Rattle.wac_graph.specs.declared.package_key.PackageKey.{PackageKey}
 use Rattle.wac_graph_types.specs.Package.{PackageParts}
 use Rattle.wac_resolution.specs.Resolved.{Resolved}
 use Rattle.wac_resolution.specs.Resolves.{Resolves}
 use Rattle.wac_resolution_errors.specs.Error.{memory}
-use Rattle.wac_resolution_errors.specs.Told.{told}
+use Rattle.wac_resolution_errors.specs.ErrorModel.{error_model}
 use Rattle.wac_resolution_errors.specs.declared.error.Error.{Error}
 use Rattle.wac_resolution_errors.specs.declared.error.Error.TheVariants as errors
-use Rattle.wac_resolution_rules.specs.ResolvedDocument.{FirstFailing, EveryNaming}
+use Rattle.wac_resolution_rules.specs.ResolvedDocument.{FirstFailing, EveryNumbering}
 use Rattle.wac_resolution_state.specs.Nodes.{composition_of, node_of}
 use Rattle.wac_tool_graphs.specs.Lines.{node_line, node_lines, argument_lines, export_lines, graph_lines}
 use Rattle.wac_tool_graphs.specs.Alone.{alone, same_rules}
@@ -24,19 +24,19 @@ use Rattle.wac_tool.specs.declared.error.RunError.TheVariants.{Refused, Input, O
 
 -- ---- the lines of a graph
 
--- A naming of origins for which a graph is read: its lines are the same under each.
-abbrev pub any_naming : Naming
-any_naming = λ origin. 0
+-- A numbering of origins for which a graph is read: its lines are the same under each.
+abbrev pub any_numbering : Numbering
+any_numbering = λ origin. 0
 
 abbrev pub lines_of : Parts → List ℕ
-lines_of g = graph_lines (composition_of any_naming g [])
+lines_of g = graph_lines (composition_of any_numbering g [])
 
-same_lines : (naming other : Naming) (g : Parts) (n : ℕ) (ns : List GraphNode) → node_lines n (map (node_of naming g) ns) ≡ node_lines n (map (node_of other g) ns)
-same_lines naming other g n [] = refl
-same_lines naming other g n (x ∷ ns) = ap (λ l. node_line n (node_of naming g x) ++ (argument_lines (arguments_in x.form) ++ l)) (same_lines naming other g (suc n) ns)
+same_lines : (numbering other : Numbering) (g : Parts) (n : ℕ) (ns : List GraphNode) → node_lines n (map (node_of numbering g) ns) ≡ node_lines n (map (node_of other g) ns)
+same_lines numbering other g n [] = refl
+same_lines numbering other g n (x ∷ ns) = ap (λ l. node_line n (node_of numbering g x) ++ (argument_lines (arguments_in x.form) ++ l)) (same_lines numbering other g (suc n) ns)
 
 is_text : (document : Document) (g : Parts) → IsGraphOf document g → IsGraphText document (lines_of g)
-is_text document g is = λ naming one. (composition_of naming g is.0, is.1 naming one, ap (λ l. l ++ export_lines g.exports) (same_lines any_naming naming g 0 g.nodes))
+is_text document g is = λ numbering one. (composition_of numbering g is.0, is.1 numbering one, ap (λ l. l ++ export_lines g.exports) (same_lines any_numbering numbering g 0 g.nodes))
 
 -- The lines of the graph of a source's document are what is written of the source.
 pub writes_graph : (source : List ℕ) (g : Parts) → HasGraph source g → Writes Resolve source (lines_of g)
@@ -44,13 +44,13 @@ writes_graph source g has = (has.0, has.1, is_text has.0 g has.2)
 
 -- ---- errors
 
-is_memory : (e : Error) → told e ≡ memory → e ≡ errors.Memory alloc_error
+is_memory : (e : Error) → error_model e ≡ memory → e ≡ errors.Memory alloc_error
 is_memory (errors.Memory a) h = refl
 is_memory _ h = absurd (cc h)
 
 -- An error of resolving names a rule that the document breaks, and has that error's place and text.
-pub is_error : (document : Document) (e : Error) (answer : RunError) → EveryNaming (λ naming. (told e ≡ memory) ⊎ FirstFailing (alone naming document) document (told e)) → IsRejection e answer → IsErrorOf document answer
-is_error document e (Refused place message) first is = (told e, ((λ m. is.1 (is_memory e m)), (λ naming one. ⊎_elim (λ m. absurd (is.1 (is_memory e m))) (λ x. x) (first naming one))), is.0, is.2)
+pub is_error : (document : Document) (e : Error) (answer : RunError) → EveryNumbering (λ numbering. (error_model e ≡ memory) ⊎ FirstFailing (alone numbering document) document (error_model e)) → IsRejection e answer → IsErrorOf document answer
+is_error document e (Refused place message) first is = (error_model e, ((λ m. is.1 (is_memory e m)), (λ numbering one. ⊎_elim (λ m. absurd (is.1 (is_memory e m))) (λ x. x) (first numbering one))), is.0, is.2)
 is_error document e (Memory a) first is = tt
 is_error document e Input first is = absurd is
 is_error document e Output first is = absurd is

@@ -1,4 +1,4 @@
--- What writing the JSON form of a document, and a line feed behind it, gives.
+-- What writing the JSON form of a document, and a line feed after it, gives.
 use Rattle.wac_tool.proofs.Common.{◌≡◌, ◌≤◌, ℕ, true, List, ◌∷◌, ◌++◌, take, drop, append_assoc, length, length-append, arith, ap, ◌∙◌, subst, take-append-drop}
 use Rattle.wac_json_text.specs.Pieces.{IsBegun}
 use Rattle.wac_tool.specs.Front.{is_front, Began}
@@ -10,8 +10,8 @@ pub put_both : (old mid new text rest : List ℕ) → mid ≡ old ++ text → ne
 put_both old mid new text rest e k = k ∙ ap (λ x. x ++ rest) e ∙ append_assoc old text rest
 
 -- a text went into the sink, and a prefix of what follows it
-pub cut_behind : (old mid new text rest : List ℕ) (n : ℕ) → mid ≡ old ++ text → new ≡ mid ++ take n rest → Began old new (text ++ rest)
-cut_behind old mid new text rest n e k =
+pub cut_after : (old mid new text rest : List ℕ) (n : ℕ) → mid ≡ old ++ text → new ≡ mid ++ take n rest → Began old new (text ++ rest)
+cut_after old mid new text rest n e k =
     let whole : new ++ drop n rest ≡ old ++ (text ++ rest) =
     ap (λ x. x ++ drop n rest) k
     ∙ append_assoc mid (take n rest) (drop n rest)

@@ -5,14 +5,14 @@ use Rattle.wac_graph_types.specs.Scope.{Named}
 use Rattle.wac_ast_grammar.specs.Tree.{Document}
 use Rattle.wac_ast_grammar.specs.TextTree.{IsTreeOf}
 use Rattle.wac_graph.specs.Graph.{Parts}
-use Rattle.wac_resolution_errors.specs.Error.{Error as Told}
+use Rattle.wac_resolution_errors.specs.Error.{Error as ErrorModel}
 use Rattle.wac_resolution_errors.specs.Messages.{text_of}
 use Rattle.wac_resolution_errors.specs.Places.{span_of}
-use Rattle.wac_resolution_errors.specs.Told.{told}
+use Rattle.wac_resolution_errors.specs.ErrorModel.{error_model}
 use Rattle.wac_resolution_errors.specs.declared.error.Error.{Error}
 use Rattle.wac_resolution_errors.specs.declared.error.Error.TheVariants as errors
 use Rattle.wac_resolution_rules.specs.Composition.{Composition}
-use Rattle.wac_resolution_rules.specs.ResolvedDocument.{Describes, EveryNaming}
+use Rattle.wac_resolution_rules.specs.ResolvedDocument.{Describes, EveryNumbering}
 use Rattle.wac_resolution_state.specs.Nodes.{composition_of}
 use Rattle.wac_tool_graphs.specs.Lines.{graph_lines}
 use Rattle.wac_tool_graphs.specs.Alone.{alone, BreaksRule}
@@ -23,17 +23,17 @@ use Rattle.wac_tool.specs.declared.error.RunError.TheVariants.{Refused, Memory}
 
 -- The document describes a composition, and these are its lines.
 abbrev pub IsGraphText : Document → List ℕ → Type 0
-IsGraphText document out = EveryNaming (λ naming. (c : Composition) × Describes (alone naming document) document c × (out ≡ graph_lines c))
+IsGraphText document out = EveryNumbering (λ numbering. (c : Composition) × Describes (alone numbering document) document c × (out ≡ graph_lines c))
 
 -- The document breaks a rule: its error names it, and has this place and this text.
 abbrev pub IsRejected : Document → Option Span → List ℕ → Type 0
-IsRejected document place text = (e : Told) × BreaksRule document e × (place ≡ span_of e) × (text ≡ text_of e)
+IsRejected document place text = (e : ErrorModel) × BreaksRule document e × (place ≡ span_of e) × (text ≡ text_of e)
 
 -- ---- graphs and errors
 
 -- The graph denotes what the document describes, where some names are bound at root.
 abbrev pub IsGraphOf : Document → Parts → Type 0
-IsGraphOf document g = (declared : Named ℕ) × EveryNaming (λ naming. Describes (alone naming document) document (composition_of naming g declared))
+IsGraphOf document g = (declared : Named ℕ) × EveryNumbering (λ numbering. Describes (alone numbering document) document (composition_of numbering g declared))
 
 -- The source has a document, and the graph is that document's.
 abbrev pub HasGraph : List ℕ → Parts → Type 0
@@ -41,7 +41,7 @@ HasGraph source g = (document : Document) × IsTreeOf source document × IsGraph
 
 -- what is returned for an error: its place and its text, unless memory ran out
 abbrev pub IsRejection : Error → RunError → Type 0
-IsRejection e (Refused place message) = (place ≡ span_of (told e)) × (e ≢ errors.Memory alloc_error) × (string_bytes message ≡ text_of (told e))
+IsRejection e (Refused place message) = (place ≡ span_of (error_model e)) × (e ≢ errors.Memory alloc_error) × (string_bytes message ≡ text_of (error_model e))
 IsRejection e (Memory _) = Unit {0}
 IsRejection e answer = ⊥
 

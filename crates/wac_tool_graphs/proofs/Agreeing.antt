@@ -34,7 +34,7 @@ keeps_more [] qs k p is = absurd (cc)
 keeps_more (q ∷ ps) qs zero p is = is
 keeps_more (q ∷ ps) qs (suc k) p is = keeps_more ps qs k p is
 
--- what agrees on the pairs behind a push agrees on those before
+-- what agrees on the pairs after a push agrees on those before
 pub pushed_before : (means : ℕ → Meaning) (ps new : List (ℕ × ℕ)) (i j : ℕ) (b : Bool) → new ≡ cond b (ps ++ (i, j) ∷ []) ps → Agree means new → Agree means ps
 pushed_before means ps new i j true is h = agree_before means ps (ps ++ (i, j) ∷ []) (keeps_more ps ((i, j) ∷ [])) (subst (λ (l : List (ℕ × ℕ)). Agree means l) is h)
 pushed_before means ps new i j false is h = subst (λ (l : List (ℕ × ℕ)). Agree means l) is h

@@ -2,7 +2,7 @@
 ghost use Rattle.std.specs.Prelude.{◌≡◌, ◌<◌, ◌++◌, ℕ, Some, length, map, option_map, slice_get, codes, decimal};
 ghost use Rattle.wac_graph_types.specs.Scope.{Named};
 ghost use Rattle.wac_graph.specs.Node.{Node, arguments_in};
-ghost use Rattle.wac_graph.specs.Origin.{Naming};
+ghost use Rattle.wac_graph.specs.Origin.{Numbering};
 ghost use Rattle.wac_graph.specs.Package.{key_of};
 ghost use Rattle.wac_resolution_rules.specs.Composition.{aliased, instantiated};
 ghost use Rattle.wac_resolution_state.specs.Nodes.{composition_of, form_in, node_of};
@@ -17,9 +17,9 @@ use wac_lexer::Sink;
 /// Writes a line for each node of a graph, with a line for each of its arguments under it, and then a line for each export.
 /// It takes no memory.
 pub fn write_graph<S: Sink>(graph: &CompositionGraph, out: &mut S) -> Result<(), OutputFailed>
-    ensures { (naming : Naming) (declared : Named ℕ)
+    ensures { (numbering : Numbering) (declared : Named ℕ)
         → Puts result (S.bytes out.old) (S.failures out.old) (S.bytes out.new) (S.failures out.new)
-        (graph_lines (composition_of naming graph.now declared)) }
+        (graph_lines (composition_of numbering graph.now declared)) }
 {
     write_nodes(graph, out)?;
     write_names("export ", graph.exports(), out)
@@ -27,9 +27,9 @@ pub fn write_graph<S: Sink>(graph: &CompositionGraph, out: &mut S) -> Result<(),
 
 /// Writes the lines of all nodes.
 fn write_nodes<S: Sink>(graph: &CompositionGraph, out: &mut S) -> Result<(), OutputFailed>
-    ensures { (naming : Naming)
+    ensures { (numbering : Numbering)
         → Puts result (S.bytes out.old) (S.failures out.old) (S.bytes out.new) (S.failures out.new)
-        (node_lines 0 (map (node_of naming graph.now) graph.now.nodes)) }
+        (node_lines 0 (map (node_of numbering graph.now) graph.now.nodes)) }
 {
     for id in graph.nodes() {
         write_node(graph, id, out)?;
@@ -44,9 +44,9 @@ fn write_node<S: Sink>(
     out: &mut S,
 ) -> Result<(), OutputFailed>
     requires { id.0 < length graph.now.nodes }
-    ensures { (naming : Naming) (n : Node) → slice_get graph.now.nodes id.0 ≡ Some n
+    ensures { (numbering : Numbering) (n : Node) → slice_get graph.now.nodes id.0 ≡ Some n
         → Puts result (S.bytes out.old) (S.failures out.old) (S.bytes out.new) (S.failures out.new)
-        (node_line id.0 (node_of naming graph.now n) ++ argument_lines (arguments_in n.form)) }
+        (node_line id.0 (node_of numbering graph.now n) ++ argument_lines (arguments_in n.form)) }
 {
     write_form(graph, id, out)?;
     write_kind(graph.kind(id).desc(), graph.name(id), out)?;

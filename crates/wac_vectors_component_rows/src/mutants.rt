@@ -38,7 +38,7 @@ impl Drop for Change {
     }
 }
 
-/// The bytes of a section: from the byte behind its size to its end.
+/// The bytes of a section: from the byte after its size to its end.
 #[derive(Clone, Copy)]
 struct Section {
     first: usize,
@@ -61,10 +61,10 @@ impl Drop for Mutants {
 /// Bytes with a change made.
 fn changed(alloc: Global, bytes: &[u8], change: &Change) -> Result<Vec<u8>, AllocError> {
     let first = change.first.min(bytes.len());
-    let behind = first.saturating_add(change.count).min(bytes.len());
+    let after = first.saturating_add(change.count).min(bytes.len());
     let mut made = Vec::from_slice(alloc, &bytes[..first])?;
     made.extend_from_slice(change.bytes.as_slice())?;
-    made.extend_from_slice(&bytes[behind..])?;
+    made.extend_from_slice(&bytes[after..])?;
     Ok(made)
 }
 

@@ -8,8 +8,8 @@ use wac_components::{DecodeError, Decoded, ErrorKind, Limits, decode};
 /// ten megabytes in LEB128.
 static BEFORE: &[u8] = b"\0asm\x0d\0\x01\0\x01\x80\x80\x80\x05";
 
-/// The bytes behind the core module: the type `bool`, and its export as `t`.
-static BEHIND: &[u8] = b"\x07\x02\x01\x7f\x0b\x07\x01\0\x01t\x03\0\0";
+/// The bytes after the core module: the type `bool`, and its export as `t`.
+static AFTER: &[u8] = b"\x07\x02\x01\x7f\x0b\x07\x01\0\x01t\x03\0\0";
 
 /// A part of the core module, which is none: all of its bytes are 0.
 static BLOCK: [u8; 4096] = [0; 4096];
@@ -30,7 +30,7 @@ fn large(alloc: Global) -> Result<Vec<u8>, AllocError> {
     for _ in 0..BLOCKS {
         bytes.extend_from_slice(&BLOCK)?;
     }
-    bytes.extend_from_slice(BEHIND)?;
+    bytes.extend_from_slice(AFTER)?;
     Ok(bytes)
 }
 

@@ -3,7 +3,7 @@
 use std::test::Fail;
 use wac_components_bytes::{ErrorKind, Reader};
 
-/// Bytes, and the number that they begin with, with the offset behind it; or what is wrong, with its offset.
+/// Bytes, and the number that they begin with, with the offset after it; or what is wrong, with its offset.
 type Row = (&'static [u8], Result<u32, ErrorKind>, usize);
 
 /// The first is the example that descriptions of LEB128 have; the others are limits of the format.

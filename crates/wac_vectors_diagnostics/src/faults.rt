@@ -12,7 +12,7 @@ enum Asked {
     Faults(usize),
     /// The fault that the statement at a place has there. Nothing where it has none.
     Alone(usize),
-    /// What is left of it, behind the number of bytes of that it doesn't have.
+    /// What is left of it, after the number of bytes of that it doesn't have.
     Left,
 }
 
@@ -192,10 +192,10 @@ static ROWS: [Row; 48] = [
     // The statement there has its fault elsewhere, or none.
     ("package a:b;\nlet = x;\n", Asked::Alone(15), ""),
     ("package a:b;\nlet x = y;\n", Asked::Alone(17), ""),
-    // The directive is no statement behind another one.
+    // The directive is no statement after another one.
     ("package a;\nlet = x;\n", Asked::Alone(8), ""),
     ("", Asked::Alone(0), ""),
-    // What is left of texts, behind how many bytes of that they don't have.
+    // What is left of texts, after how many bytes of that they don't have.
     ("package a:b;\n", Asked::Left, "0 package a:b;\n"),
     ("", Asked::Left, "0 "),
     (
@@ -276,7 +276,7 @@ fn line_at(alloc: Global, text: &str, place: usize) -> Result<String, AllocError
     }
 }
 
-/// What is left of a text, behind the number of bytes of that it doesn't have.
+/// What is left of a text, after the number of bytes of that it doesn't have.
 fn left_of(alloc: Global, text: &str) -> Result<String, AllocError> {
     match recover(alloc, text, 9) {
         Ok(recovery) => {

@@ -18,7 +18,7 @@ enum Form {
 /// What is told.
 #[derive(Clone, Copy)]
 enum Told {
-    /// An error with all that one can have, behind a character of two bytes.
+    /// An error with all that one can have, after a character of two bytes.
     Full,
     /// A warning without a place.
     Bare,

@@ -16,7 +16,7 @@ enum Pause {
     Never,
     /// At the call of this number it fails by an error of this kind, or says that the text ends there.
     At(usize, Option<ErrorKind>),
-    /// It fails at its first call, and at every second one behind that.
+    /// It fails at its first call, and at every second one after that.
     EverySecond,
 }
 
@@ -84,7 +84,7 @@ impl<'a> Device<'a> {
         Ok(wanted.min(self.width).min(self.room - self.moved))
     }
 
-    /// What the text has behind the bytes that were moved.
+    /// What the text has after the bytes that were moved.
     fn rest(&self) -> &'a [u8] {
         let (_, rest) = self.text.split_at(self.moved.min(self.text.len()));
         rest
@@ -357,6 +357,6 @@ fn blocks(rt: HostRuntime) -> Result<(), Fail> {
     assert!(rt; blocks_arrive(&text), "whole");
     assert!(rt; nothing_arrives(&text), "nothing");
     assert!(rt; blocks_arrive_up_to_a_failure(&text), "up to a failure");
-    assert!(rt; blocks_pass_failures(&text), "behind failures");
+    assert!(rt; blocks_pass_failures(&text), "after failures");
     Ok(())
 }

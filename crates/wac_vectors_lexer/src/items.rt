@@ -246,15 +246,15 @@ fn nested(alloc: Global) -> Result<String, AllocError> {
     Ok(source)
 }
 
-/// The item behind a comment that nests so deep.
-static BEHIND: [Row; 1] = [(Ok(Token::Ident), 800, 1)];
+/// The item after a comment that nests so deep.
+static AFTER: [Row; 1] = [(Ok(Token::Ident), 800, 1)];
 
-/// Asserts the items of a deep comment, and of one with an item behind it.
+/// Asserts the items of a deep comment, and of one with an item after it.
 fn deep_comments(rt: &impl Abort, alloc: Global) -> Result<(), AllocError> {
     let mut source = nested(alloc)?;
     assert!(rt; has_items(source.as_str(), &[]), "a deep comment");
     source.push_str("x")?;
-    assert!(rt; has_items(source.as_str(), &BEHIND), "behind it");
+    assert!(rt; has_items(source.as_str(), &AFTER), "after it");
     Ok(())
 }
 

@@ -68,7 +68,7 @@ fn offsets_within_a_character(rt: HostRuntime) -> Result<(), Fail> {
     let face = Place { line: 1, column: 2 };
     assert!(rt;
         lines.place(9, ColumnUnit::Characters) == face,
-        "behind its first byte"
+        "after its first byte"
     );
     assert!(rt;
         lines.place(11, ColumnUnit::Characters) == face,

@@ -70,12 +70,12 @@ static ROWS: [Row; 13] = [
         "{\"id\":2,\"jsonrpc\":\"2.0\",\"method\":\"textDocument/definition\",\"params\":{\"position\":{\"character\":13,\"line\":1},\"textDocument\":{\"uri\":\"file:///my%20project/app.wac\"}}}",
         "{\"id\":2,\"jsonrpc\":\"2.0\",\"result\":{\"range\":{\"end\":{\"character\":11,\"line\":0},\"start\":{\"character\":8,\"line\":0}},\"uri\":\"file:///my%20project/%62.wac\"}}\n",
     ),
-    // Behind `new a:`, what is written of the name is replaced.
+    // After `new a:`, what is written of the name is replaced.
     (
         "{\"id\":5,\"jsonrpc\":\"2.0\",\"method\":\"textDocument/completion\",\"params\":{\"position\":{\"character\":14,\"line\":1},\"textDocument\":{\"uri\":\"file:///my%20project/app.wac\"}}}",
         "{\"id\":5,\"jsonrpc\":\"2.0\",\"result\":{\"isIncomplete\":false,\"items\":[{\"detail\":\"a:b\",\"kind\":9,\"label\":\"a:b\",\"textEdit\":{\"newText\":\"a:b\",\"range\":{\"end\":{\"character\":14,\"line\":1},\"start\":{\"character\":12,\"line\":1}}}},{\"detail\":\"a:c\",\"kind\":9,\"label\":\"a:c\",\"textEdit\":{\"newText\":\"a:c\",\"range\":{\"end\":{\"character\":14,\"line\":1},\"start\":{\"character\":12,\"line\":1}}}}]}}\n",
     ),
-    // What open documents declare, the one that changed last at the end, and behind it what the others of the folder do.
+    // What open documents declare, the one that changed last at the end, and after it what the others of the folder do.
     (
         "{\"id\":11,\"jsonrpc\":\"2.0\",\"method\":\"workspace/symbol\",\"params\":{\"query\":\"\"}}",
         "{\"id\":11,\"jsonrpc\":\"2.0\",\"result\":[{\"kind\":2,\"location\":{\"range\":{\"end\":{\"character\":11,\"line\":1},\"start\":{\"character\":0,\"line\":1}},\"uri\":\"file:///my%20project/%62.wac\"},\"name\":\"w\"},{\"kind\":13,\"location\":{\"range\":{\"end\":{\"character\":20,\"line\":1},\"start\":{\"character\":0,\"line\":1}},\"uri\":\"file:///my%20project/app.wac\"},\"name\":\"x\"},{\"kind\":11,\"location\":{\"range\":{\"end\":{\"character\":28,\"line\":1},\"start\":{\"character\":0,\"line\":1}},\"uri\":\"file:///my%20project/c.wac\"},\"name\":\"i\"},{\"kind\":26,\"location\":{\"range\":{\"end\":{\"character\":26,\"line\":1},\"start\":{\"character\":14,\"line\":1}},\"uri\":\"file:///my%20project/c.wac\"},\"name\":\"t\"}]}\n",

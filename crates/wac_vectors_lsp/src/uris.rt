@@ -59,7 +59,7 @@ fn uris_of_files_name_paths(rt: HostRuntime) -> Result<(), Fail> {
     Ok(())
 }
 
-/// The parameters of `initialize`, and the folders of it, each behind a blank.
+/// The parameters of `initialize`, and the folders of it, each after a blank.
 static MESSAGES: [(&str, &str); 10] = [
     (
         "{\"workspaceFolders\":[{\"uri\":\"file:///a%20b\",\"name\":\"x\"},{\"uri\":\"file:///c/\"}],\"rootUri\":\"file:///d\"}",

@@ -85,7 +85,7 @@ pub(crate) fn first_other(
 }
 
 /// What is asked, about which text and which offset of it, and the answer. No mark can be at most of these offsets,
-/// which are within a character or behind the end.
+/// which are within a character or after the end.
 static OFFSETS: [(Question, &str, usize, &str); 11] = [
     (Question::Kinds, "", 0, "package"),
     (Question::Kinds, "", 1, ""),

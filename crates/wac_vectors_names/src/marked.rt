@@ -7,7 +7,7 @@ pub(crate) type Row = (&'static str, &'static str);
 
 /// A text without its mark, and where that was: at its end where there is none.
 pub(crate) fn unmarked(alloc: Global, marked: &str) -> Result<(String, usize), AllocError> {
-    let (before, behind) = marked.split_once('|').unwrap_or((marked, ""));
-    let text = format!(in alloc; "{before}{behind}")?;
+    let (before, after) = marked.split_once('|').unwrap_or((marked, ""));
+    let text = format!(in alloc; "{before}{after}")?;
     Ok((text, before.len()))
 }

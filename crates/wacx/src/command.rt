@@ -205,7 +205,7 @@ fn reads_files_alone(work: Work) -> bool {
     }
 }
 
-/// The paths, and that of the document with a world behind them.
+/// The paths, and that of the document with a world after them.
 fn paths_of<'a>(alloc: Global, found: &ArgMatches<'a>) -> Result<Vec<&'a str>, AllocError> {
     let mut all = all_of(alloc, found, "PATH")?;
     if let Some(path) = found.get_str("WORLD") {

@@ -73,7 +73,7 @@ impl<'a> Scanner<'a> {
     ghost use Rattle.std.specs.Prelude.{◌≡◌, ◌+◌, ◌<◌, ◌^◌, IfSome, MatchOption};
     ghost use Rattle.std.specs.Str.{IsCharBoundary};
     ghost use Rattle.wac_lexer.specs.Items.{first_item, items_from};
-    ghost use Rattle.wac_lexer.specs.Reading.{Slices, IsFound, IsAhead, items_behind};
+    ghost use Rattle.wac_lexer.specs.Reading.{Slices, IsFound, IsAhead, items_after};
     ghost use Rattle.wac_lexer.specs.Span.{end_of};
 
     /// A source that was not scanned yet.
@@ -139,11 +139,11 @@ impl<'a> Scanner<'a> {
     }
 
     /// Finds the item after another. Where there is no other the end was found before, and this is no scan.
-    pub(super) fn scan_behind(&mut self, item: Option<Item>) -> Option<Item>
+    pub(super) fn scan_after(&mut self, item: Option<Item>) -> Option<Item>
         requires slices { IfSome item (λ x. Slices self.old.source.now x.1) }
         requires fits { IfSome item (λ x. end_of x.1 < 2 ^ 64) }
         requires counts { self.old.scans + 1 < 2 ^ 64 }
-        ensures item { IsFound self.old.source.now (items_behind self.old.source.now item) result }
+        ensures item { IsFound self.old.source.now (items_after self.old.source.now item) result }
         ensures source { self.new.source ≡ self.old.source }
         ensures scans { MatchOption item (self.new.scans ≡ self.old.scans) (λ _. self.new.scans ≡ self.old.scans + 1) }
     {
@@ -160,7 +160,7 @@ impl<'a> Scanner<'a> {
     {
         match self.scan(0) {
             Some((found, span)) => {
-                let second = self.scan_behind(Some((found, span)));
+                let second = self.scan_after(Some((found, span)));
                 (Some((found, span)), second)
             }
             None => (None, None),

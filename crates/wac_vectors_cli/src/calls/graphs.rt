@@ -21,7 +21,7 @@ const ONE: &[u8] = b"package c:d; world w { import y: func(); export f: func(); 
 const COMPONENT: &[u8] =
     b"\0asm\x0D\0\x01\0\x07\x05\x01\x40\0\x01\0\x0A\x06\x01\0\x01y\x01\0\x0B\x07\x01\0\x01f\x01\0\0";
 
-/// A package whose world has an interface of another one, which is handed over behind it.
+/// A package whose world has an interface of another one, which is handed over after it.
 const TWO: &[u8] = b"package c:d; world w { import e:f/i; export f: func(); }";
 
 const THREE: &[u8] = b"package e:f; interface i { h: func(); }";
@@ -91,7 +91,7 @@ static REJECTED: [Row; 15] = [
         cut: 0,
         left: "rejected 20+1 | undefined name `x`",
     },
-    // A frame that is cut. The second begins at 68, behind the 60 bytes of the first and their length.
+    // A frame that is cut. The second begins at 68, after the 60 bytes of the first and their length.
     Row {
         text: APP,
         packages: &[ONE, THREE],

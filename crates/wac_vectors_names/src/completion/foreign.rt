@@ -4,7 +4,7 @@ use crate::marked::Row;
 use std::alloc::{AllocError, Global};
 use wac_completion::{Asked, Foreign, Origin, foreign_at};
 
-/// A line with a word and the texts behind it.
+/// A line with a word and the texts after it.
 fn joined(alloc: Global, word: &str, texts: &[&str]) -> Result<String, AllocError> {
     let mut line = String::from_str(alloc, word)?;
     for text in texts {

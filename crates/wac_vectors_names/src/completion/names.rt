@@ -5,7 +5,7 @@ use std::alloc::{AllocError, Global};
 use wac_completion::{completions_at, names_at};
 use wac_lexer::SourceSpan;
 
-/// Adds a text behind a blank.
+/// Adds a text after a blank.
 fn add(line: &mut String, text: &str) -> Result<(), AllocError> {
     if !line.is_empty() {
         line.push(' ')?;

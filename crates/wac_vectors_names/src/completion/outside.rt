@@ -27,7 +27,7 @@ pub(crate) static OUTSIDE: [Row; 39] = [
     ("package a:b; interface i { use a.{b|", "id }"),
     ("package a:b|", ""),
     ("package a:b; import x: c:d/e|", ""),
-    // Comments, and what is behind them.
+    // Comments, and what is after them.
     ("//|", ""),
     ("/// do|", ""),
     ("/// docs |", ""),
@@ -47,7 +47,7 @@ pub(crate) static OUTSIDE: [Row; 39] = [
     ("package a:b; let x = y[\"z|", ""),
     ("package a:b; let x = y[\"//|", ""),
     ("package a:b; let x = y[\"//\"|", "]"),
-    // Texts with a fault before the offset, and with others behind it.
+    // Texts with a fault before the offset, and with others after it.
     ("package a:b; let = |", ""),
     ("package a:b; let x = y; ) |", ""),
     ("package a:b; let x = \u{e9} |", ""),

@@ -12,9 +12,9 @@ pub(crate) type Row = (&'static str, &'static str, &'static str);
 fn edited_once(alloc: Global, text: &str, edit: &Edit) -> Result<String, AllocError> {
     let end = edit.span.offset().saturating_add(edit.span.len());
     let before = text.get(..edit.span.offset()).unwrap_or("");
-    let behind = text.get(end..).unwrap_or("");
+    let rest = text.get(end..).unwrap_or("");
     let new = edit.text.as_str();
-    format!(in alloc; "{before}{new}{behind}")
+    format!(in alloc; "{before}{new}{rest}")
 }
 
 /// A text after edits, the last first: so each is of the text as it was.

@@ -4,7 +4,7 @@ use crate::marked::Row;
 use std::alloc::{AllocError, Global};
 use wac_lsp_names::hover_at;
 
-/// Texts with a mark, and what is said there: the lines that declare the name and, behind a line of signs, its docs.
+/// Texts with a mark, and what is said there: the lines that declare the name and, after a line of signs, its docs.
 /// Nothing where no name is there.
 pub(crate) static HOVERS: [Row; 21] = [
     (

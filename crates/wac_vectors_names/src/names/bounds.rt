@@ -4,7 +4,7 @@ use crate::marked::Row;
 use std::alloc::{AllocError, Global};
 use wac_names::{Mention, Names};
 
-/// Documents, and what is looked up in a scope: each identifier with its offset, and behind `>` where that scope binds
+/// Documents, and what is looked up in a scope: each identifier with its offset, and after `>` where that scope binds
 /// what it finds, which is the item of a `use` where that brings it in. Members, as the exports of an instance, are none
 /// of these, and neither is what finds nothing.
 pub(crate) static LOOKED_UP: [Row; 32] = [
@@ -137,7 +137,7 @@ pub(crate) static LOOKED_UP: [Row; 32] = [
         "package a:b; world w { import f: func(); } world v { include w; import g: f; } world u { include a:b/w with { f as g }; include v2; }",
         "w 61>19, w 101>19",
     ),
-    // A name of a body is none at root, and the name of a body is bound behind it.
+    // A name of a body is none at root, and the name of a body is bound after it.
     (
         "package a:b; interface i { type t = u8; use i.{u}; } world w { include w; import i; } import x: i; import y: w; import z: t;",
         "i 81>23, i 96>23, w 109>59",

@@ -121,7 +121,7 @@ fn slice(text: &str, span: SourceSpan) -> &str {
     text.get(span.offset()..end).unwrap_or("?")
 }
 
-/// A symbol in words: its kind and its name, what is said of it behind `=`, and its declaration, with two blanks before
+/// A symbol in words: its kind and its name, what is said of it after `=`, and its declaration, with two blanks before
 /// for each that is around it.
 fn words(alloc: Global, text: &str, symbol: &Symbol) -> Result<String, AllocError> {
     let indent = "  ".repeat(alloc, symbol.depth)?;

@@ -8,5 +8,5 @@ invariant-loop-item l =
     record {
       can : (goal.iterator-loop-item).can_next l.lexer;
       finite : (goal.iterator-loop-item).is_finite l.lexer;
-      found : declared_among l.left l.name l.is_behind (left l.lexer) ≡ declared_among l.left l.name false (left l.fn.lexer);
+      found : declared_among l.left l.name l.is_after (left l.lexer) ≡ declared_among l.left l.name false (left l.fn.lexer);
     }

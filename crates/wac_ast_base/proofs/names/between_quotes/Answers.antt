@@ -4,6 +4,6 @@ use Rattle.wac_ast_base.proofs.names.between_quotes.Goals as goal
 
 pub returns : goal.returns
 returns c =
-    let front = ap (λ r. r.now) c.unwrap_or-behind.ensures ∙ front_stripped c.args.text c.strip_prefix.result (strip_prefix_char 34 c.args.text.now c.strip_prefix.result c.strip_prefix.ensures.cases (lit< tt)) in
-    let last = ap (λ r. r.now) c.unwrap_or.ensures ∙ last_stripped c.unwrap_or-behind.result c.strip_suffix.result (strip_suffix_char 34 c.unwrap_or-behind.result.now c.strip_suffix.result c.strip_suffix.ensures.cases (lit< tt)) in
+    let front = ap (λ r. r.now) c.unwrap_or-after.ensures ∙ front_stripped c.args.text c.strip_prefix.result (strip_prefix_char 34 c.args.text.now c.strip_prefix.result c.strip_prefix.ensures.cases (lit< tt)) in
+    let last = ap (λ r. r.now) c.unwrap_or.ensures ∙ last_stripped c.unwrap_or-after.result c.strip_suffix.result (strip_suffix_char 34 c.unwrap_or-after.result.now c.strip_suffix.result c.strip_suffix.ensures.cases (lit< tt)) in
     last ∙ ap without_last_quote front

@@ -2,7 +2,7 @@ use Rattle.std.proofs.Common.{◌≡◌, ◌<◌, ◌^◌, ◌++◌, ◌∷◌, 
 use Rattle.wac_ast_statements.proofs.Common.{map_push, left, end_of, PrimaryExpr, expr, named_argument, primary_expr, new_expr, nested_expr, argument, arguments, argument_name, package_name, primary_span, read, takes_some, fails_bind, looks, comma_list, item_fails, item_less, item_missing, item_there, list_closed, list_goes_on, so_far_fails, step_fails, token_less, moved_end, same_fails, closed_by, closed_fails, never_fails, list_items}
 use Rattle.wac_lexer.specs.declared.token.Token.TheVariants as tokens
 use Rattle.wac_ast_statements.specs.Expressions.{argument_of, expr_of}
-use Rattle.wac_ast_base.proofs.Optional.{gives_behind}
+use Rattle.wac_ast_base.proofs.Optional.{gives_after}
 use Rattle.wac_ast_base.proofs.Exits as x
 use Rattle.wac_ast_base.proofs.Yields as y
 use Rattle.wac_ast_statements.proofs.ArgumentParts.{argument_is_named, argument_fails, none_begins}
@@ -15,7 +15,7 @@ pub ExprParse::parse-returns-in_err-primary-clause-gives : goal.ExprParse::parse
 ExprParse::parse-returns-in_err-primary-clause-gives t c = x.exits expr _ _ _ c.from_residual.ensures.1 (x.here c.in_err-primary.ensures.gives)
 
 pub ExprParse::parse-returns-clause-gives : goal.ExprParse::parse-returns-clause-gives
-ExprParse::parse-returns-clause-gives t c = gives_behind expr_of c.parse_accesses_after.result c.args.lexer.now c.parse.new.lexer c.parse_accesses_after.new.lexer _ _ (after_is _ _ _ c.in_ok-primary.ensures.gives.0) c.in_ok-primary.ensures.gives.1 c.parse_accesses_after.ensures.gives
+ExprParse::parse-returns-clause-gives t c = gives_after expr_of c.parse_accesses_after.result c.args.lexer.now c.parse.new.lexer c.parse_accesses_after.new.lexer _ _ (after_is _ _ _ c.in_ok-primary.ensures.gives.0) c.in_ok-primary.ensures.gives.1 c.parse_accesses_after.ensures.gives
 
 -- ---- primary expressions
 

@@ -1,4 +1,4 @@
-use Rattle.wac_comments_layout.proofs.Common.{◌≡◌, sym, ap, ◌∙◌, arith, drop, Bool, true, ◌-◌, ◌+◌, length-drop, opens, closes, behind}
+use Rattle.wac_comments_layout.proofs.Common.{◌≡◌, sym, ap, ◌∙◌, arith, drop, Bool, true, ◌-◌, ◌+◌, length-drop, opens, closes, after}
 use Rattle.wac_lexer.proofs.Pieces.{walk_opens, walk_closes, walk_other, opens_within, closes_within}
 use Rattle.wac_comments_layout.proofs.parts.comment_end.Goals as goal
 use Rattle.wac_comments_layout.proofs.parts.comment_end.Goals.{After-opens, After-closes}
@@ -20,7 +20,7 @@ loop-i-preserved-then-opens c =
       left = sym (walk_opens c.args.bytes.now c.loop-i.i c.loop-i.depth c.loop-i.invariant.deep o) ∙ c.loop-i.invariant.left;
     }
 
-closed : (c : After-closes) → c.closes.result ≡ true → behind (c.loop-i.depth - 1) (drop (c.loop-i.i + 2) c.args.bytes.now) ≡ behind 1 c.args.bytes.now
+closed : (c : After-closes) → c.closes.result ≡ true → after (c.loop-i.depth - 1) (drop (c.loop-i.i + 2) c.args.bytes.now) ≡ after 1 c.args.bytes.now
 closed c e = sym (walk_closes c.args.bytes.now c.loop-i.i c.loop-i.depth c.loop-i.invariant.deep (closes_is c _ e)) ∙ c.loop-i.invariant.left
 
 pub returns-then-depth-eq0-clause-within : goal.returns-then-depth-eq0-clause-within
@@ -30,7 +30,7 @@ returns-then-depth-eq0-clause-within c =
 
 pub returns-then-depth-eq0-clause-ends : goal.returns-then-depth-eq0-clause-ends
 returns-then-depth-eq0-clause-ends c =
-    sym (closed (goal.at.returns-then-depth-eq0-clause-ends c).After-closes c.if-closes.true) ∙ ap (λ d. behind d (drop (c.loop-i.i + 2) c.args.bytes.now)) c.if-depth-eq0.true
+    sym (closed (goal.at.returns-then-depth-eq0-clause-ends c).After-closes c.if-closes.true) ∙ ap (λ d. after d (drop (c.loop-i.i + 2) c.args.bytes.now)) c.if-depth-eq0.true
 
 pub loop-i-preserved-else-depth-eq0 : goal.loop-i-preserved-else-depth-eq0
 loop-i-preserved-else-depth-eq0 c =

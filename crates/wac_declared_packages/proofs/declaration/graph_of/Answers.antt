@@ -11,4 +11,4 @@ returns-in-Ok-clause-ok c =
 pub returns-in-Err-clause-err : goal.returns-in-Err-clause-err
 returns-in-Err-clause-err c =
     subst (λ (d : Document). IsUnresolved c.args.packages.entries (document_of d) c.of_resolving.result) c.page.view_is
-    (unresolved c.args.packages.entries (document_of c.page.inside.document.now) c.in-Err.error c.of_resolving.result (λ naming one. c.in-Err.ensures.first [] naming one) c.of_resolving.ensures)
+    (unresolved c.args.packages.entries (document_of c.page.inside.document.now) c.in-Err.error c.of_resolving.result (λ numbering one. c.in-Err.ensures.first [] numbering one) c.of_resolving.ensures)

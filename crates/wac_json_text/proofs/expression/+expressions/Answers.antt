@@ -5,7 +5,7 @@ use Rattle.wac_ast_statements.specs.declared.expr.NestedExpr.{out-NestedExpr}
 use Rattle.wac_ast_statements.proofs.ExprViews.{nested_out, new_is}
 use Rattle.wac_printer_pieces.proofs.Progress as list
 use Rattle.wac_json_text.specs.Contents.{named_json, nested_json}
-use Rattle.wac_json_text.specs.Pieces.{behind_comma, joined_pieces, pieces}
+use Rattle.wac_json_text.specs.Pieces.{after_comma, joined_pieces, pieces}
 use Rattle.wac_json_text.proofs.ExpressionTrees.{as_argument, as_primary}
 use Rattle.wac_json_text.proofs.Joined.{as_form, as_pieces, ends, form, list_then, put, then}
 use Rattle.wac_json_text.proofs.Texts.{none_left}
@@ -19,21 +19,21 @@ further_arguments-loop-tree-init g t c = starts _ _ _ _ _ c.in_ok-ready.ensures
 pub further_arguments-returns-in_err-ready : goal.further_arguments-returns-in_err-ready
 further_arguments-returns-in_err-ready g t c =
     let e : c.from_residual.result ≡ Err c.in_err-ready.field-0.0 = search rules in
-    first_stops _ _ _ _ (flat_map (λ x. behind_comma (pieces (argument_json (argument_of x)))) c.args.arguments.now) [] _ refl e c.in_err-ready.ensures
+    first_stops _ _ _ _ (flat_map (λ x. after_comma (pieces (argument_json (argument_of x)))) c.args.arguments.now) [] _ refl e c.in_err-ready.ensures
 
 pub further_arguments-returns-in_err-further_argument : goal.further_arguments-returns-in_err-further_argument
 further_arguments-returns-in_err-further_argument g t c =
     let e : c.from_residual-in_err-further_argument.result ≡ Err c.in_err-further_argument.field-0.0 = search rules in
-    stops_at (λ source depth x. behind_comma (pieces (argument_json (argument_of x)))) c.args.arguments.now _ _ c.args.out.now _ _ _ _ c.loop-tree.invariant c.loop-tree-test.true c.tree-item.is e c.in_err-further_argument.ensures
+    stops_at (λ source depth x. after_comma (pieces (argument_json (argument_of x)))) c.args.arguments.now _ _ c.args.out.now _ _ _ _ c.loop-tree.invariant c.loop-tree-test.true c.tree-item.is e c.in_err-further_argument.ensures
 
 pub further_arguments-loop-tree-preserved : goal.further_arguments-loop-tree-preserved
 further_arguments-loop-tree-preserved g t c =
-    goes_at (λ source depth x. behind_comma (pieces (argument_json (argument_of x)))) c.args.arguments.now _ _ c.args.out.now c.loop-tree.out c.further_argument.new.out c.in_ok-further_argument.field-0 c.loop-tree.invariant c.loop-tree-test.true c.tree-item.is c.in_ok-further_argument.ensures
+    goes_at (λ source depth x. after_comma (pieces (argument_json (argument_of x)))) c.args.arguments.now _ _ c.args.out.now c.loop-tree.out c.further_argument.new.out c.in_ok-further_argument.field-0 c.loop-tree.invariant c.loop-tree-test.true c.tree-item.is c.in_ok-further_argument.ensures
 
 pub further_arguments-returns : goal.further_arguments-returns
 further_arguments-returns g t c =
     let h : length c.args.arguments.now ≤ c.loop-tree.tree-index = search rules in
-    list.ends (λ source depth x. behind_comma (pieces (argument_json (argument_of x)))) c.args.arguments.now _ c.args.out.now _ _ c.loop-tree.invariant h
+    list.ends (λ source depth x. after_comma (pieces (argument_json (argument_of x)))) c.args.arguments.now _ c.args.out.now _ _ c.loop-tree.invariant h
 
 pub further_argument-returns : goal.further_argument-returns
 further_argument-returns g t c = last c.and.ensures (first c.blank.ensures) c.argument.ensures
@@ -54,7 +54,7 @@ joined_arguments-returns-in-None g t c =
 
 pub joined_arguments-returns-in_ok-argument-in-Some : goal.joined_arguments-returns-in_ok-argument-in-Some
 joined_arguments-returns-in_ok-argument-in-Some g t c =
-    first_goes _ _ _ _ _ _ _ (λ source depth. flat_map (λ x. behind_comma (pieces (argument_json (argument_of x)))) c.in-Some.rest.now) (ap (joined_pieces (λ x. pieces (argument_json (argument_of x)))) c.in-Some.ensures.cases.0)
+    first_goes _ _ _ _ _ _ _ (λ source depth. flat_map (λ x. after_comma (pieces (argument_json (argument_of x)))) c.in-Some.rest.now) (ap (joined_pieces (λ x. pieces (argument_json (argument_of x)))) c.in-Some.ensures.cases.0)
     c.in_ok-argument-in-Some.ensures c.further_arguments.ensures
 
 -- ---- arguments

@@ -3,11 +3,11 @@ use Rattle.wac_json_forms.specs.Forms.{argument_json}
 use denote.Param.Weighed.{most}
 use Rattle.wac_ast_statements.specs.declared.expr.Expr.{size-Expr}
 use Rattle.wac_ast_statements.specs.declared.expr.NewExpr.{size-NewExpr}
-use Rattle.wac_json_text.specs.Pieces.{behind_comma, pieces}
+use Rattle.wac_json_text.specs.Pieces.{after_comma, pieces}
 use Rattle.wac_json_text.proofs.expression.+expressions.Given as goal
 
 abbrev pub invariant-further_arguments-loop-tree : goal.invariant-further_arguments-loop-tree
-invariant-further_arguments-loop-tree g l = IsSoFar (λ source depth x. behind_comma (pieces (argument_json (argument_of x)))) l.arguments l.tree-index l.fn.out l.out
+invariant-further_arguments-loop-tree g l = IsSoFar (λ source depth x. after_comma (pieces (argument_json (argument_of x)))) l.arguments l.tree-index l.fn.out l.out
 
 abbrev pub decreases-expr : goal.decreases-expr
 decreases-expr g l = 8 * size-Expr l.tree.now + 0

@@ -1,5 +1,5 @@
 use Rattle.wac_json_text.proofs.Common.{◌≡◌, [], rules, Err, ap, flat_map, first_stops, first_goes, none_is}
-use Rattle.wac_json_text.specs.Pieces.{pieces, behind_comma, joined_pieces}
+use Rattle.wac_json_text.specs.Pieces.{pieces, after_comma, joined_pieces}
 use Rattle.wac_json_text.proofs.Texts.{none_left}
 use Rattle.wac_json_text.proofs.parts.joined.Goals as goal
 
@@ -15,5 +15,5 @@ returns-in-None g c =
 
 pub returns-in_ok-write-in-Some : goal.returns-in_ok-write-in-Some
 returns-in_ok-write-in-Some g c =
-    first_goes _ _ _ _ _ _ _ (λ source depth. flat_map (λ x. behind_comma (pieces (g.T.Json.form x))) c.in-Some.rest.now) (ap (joined_pieces (λ x. pieces (g.T.Json.form x))) c.in-Some.ensures.cases.0)
-    c.in_ok-write-in-Some.ensures c.behind_commas.ensures
+    first_goes _ _ _ _ _ _ _ (λ source depth. flat_map (λ x. after_comma (pieces (g.T.Json.form x))) c.in-Some.rest.now) (ap (joined_pieces (λ x. pieces (g.T.Json.form x))) c.in-Some.ensures.cases.0)
+    c.in_ok-write-in-Some.ensures c.after_commas.ensures

@@ -1,6 +1,6 @@
 use Rattle.wac_json_text.proofs.Common.{◌≡◌, ◌<◌, ◌≤◌, ◌+◌, ◌++◌, ◌∷◌, [], ℕ, rules, drop, take, length, get_or, refl, sym, ap, ◌∙◌, subst, arith, Ok, Err, Some, None, slice_get, IsCharBoundary, IsCharBoundary-after_ascii, escape, blank, Prints}
 use Rattle.wac_json_text.specs.Pieces.{FrontWritten}
-use Rattle.wac_json_text.proofs.Escapes.{as_ok, behind_at, both, escape_parts, first_fails, front_escaped, none_behind, not_plain_ascii, not_plain_at, plain_boundary, run_front}
+use Rattle.wac_json_text.proofs.Escapes.{as_ok, after_at, both, escape_parts, first_fails, front_escaped, none_after, not_plain_ascii, not_plain_at, plain_boundary, run_front}
 use Rattle.wac_json_text.proofs.text.escaped_front.Goals as goal
 
 pub split_at-requires : goal.split_at-requires
@@ -21,7 +21,7 @@ escape_of-requires g c =
     let n = c.plain_len-len.result in
     let len = c.plain_len-len.ensures.len in
     let found : slice_get (drop n text) 0 ≡ Some c.in-Some.byte.now = ap (λ t. slice_get t 0) (sym (c.as_bytes.ensures.value ∙ c.split_at.ensures.back)) ∙ sym c.in-Some.ensures.value in
-    let at = behind_at n text c.in-Some.byte.now found in
+    let at = after_at n text c.in-Some.byte.now found in
     not_plain_at n c.in-Some.byte.now text len at.0 at.1
 
 pub returns-in_err-blank-in-Some : goal.returns-in_err-blank-in-Some
@@ -30,7 +30,7 @@ returns-in_err-blank-in-Some g c =
     let n = c.plain_len-len.result in
     let len = c.plain_len-len.ensures.len in
     let found : slice_get (drop n text) 0 ≡ Some c.in-Some.byte.now = ap (λ t. slice_get t 0) (sym (c.as_bytes.ensures.value ∙ c.split_at.ensures.back)) ∙ sym c.in-Some.ensures.value in
-    let at = behind_at n text c.in-Some.byte.now found in
+    let at = after_at n text c.in-Some.byte.now found in
     let f = c.in_err-blank-in-Some.field-0.0 in
     let e : c.from_residual-in_err-blank-in-Some.result ≡ Err f = search rules in
     let run = c.split_at.result.0.now in
@@ -47,7 +47,7 @@ returns-in_ok-blank-in-Some g c =
     let n = c.plain_len-len.result in
     let len = c.plain_len-len.ensures.len in
     let found : slice_get (drop n text) 0 ≡ Some c.in-Some.byte.now = ap (λ t. slice_get t 0) (sym (c.as_bytes.ensures.value ∙ c.split_at.ensures.back)) ∙ sym c.in-Some.ensures.value in
-    let at = behind_at n text c.in-Some.byte.now found in
+    let at = after_at n text c.in-Some.byte.now found in
     let run = c.split_at.result.0.now in
     let esc = c.escape_of.result.now in
     let front = front_escaped n c.in-Some.byte.now text run esc c.utf8.text len c.split_at.ensures.front at.0 at.1 c.escape_of.ensures in
@@ -65,7 +65,7 @@ returns-in-None g c =
     let text = c.args.text.now in
     let n = c.plain_len-len.result in
     let none : slice_get (drop n text) 0 ≡ None = ap (λ t. slice_get t 0) (sym (c.as_bytes.ensures.value ∙ c.split_at.ensures.back)) ∙ sym c.in-None.ensures.value in
-    let ends : length text ≤ n = none_behind n text none in
+    let ends : length text ≤ n = none_after n text none in
     let run = run_front n text c.split_at.result.0.now c.utf8.text c.plain_len-len.ensures.len c.split_at.ensures.front in (
       omega (arith, ends, c.requires),
       c.plain_len-len.ensures.within,

@@ -7,7 +7,7 @@ use Rattle.wac_ast_types.proofs.TypeParts.{future_is, result_is, stream_is, tupl
 use Rattle.wac_printer_pieces.proofs.Progress as list
 use Rattle.wac_printer_pieces.proofs.Sequence.{after}
 use Rattle.wac_json_text.specs.Contents.{held_pieces, tuple_json}
-use Rattle.wac_json_text.specs.Pieces.{behind_comma, joined_pieces, pieces}
+use Rattle.wac_json_text.specs.Pieces.{after_comma, joined_pieces, pieces}
 use Rattle.wac_json_text.proofs.Joined.{as_form, as_pieces, at_once, ends, list_then, opened, put, then}
 use Rattle.wac_json_text.proofs.Texts.{none_left}
 use Rattle.wac_json_text.proofs.Trees.{as_ty, held_put}
@@ -18,7 +18,7 @@ use Rattle.wac_json_text.proofs.value_type.+types.Goals as goal
 pub further_types-returns-in_err-ready : goal.further_types-returns-in_err-ready
 further_types-returns-in_err-ready g t c =
     let e : c.from_residual.result ≡ Err c.in_err-ready.field-0.0 = search rules in
-    stops c.args.out.now c.args.out.now c.in_err-ready.field-0.0 c.from_residual.result [] (flat_map (λ x. behind_comma (pieces (ty_json (ty_of x)))) c.args.types.now) e c.in_err-ready.ensures
+    stops c.args.out.now c.args.out.now c.in_err-ready.field-0.0 c.from_residual.result [] (flat_map (λ x. after_comma (pieces (ty_json (ty_of x)))) c.args.types.now) e c.in_err-ready.ensures
 
 pub further_types-loop-held-init : goal.further_types-loop-held-init
 further_types-loop-held-init g t c = starts _ _ _ _ _ c.in_ok-ready.ensures
@@ -26,16 +26,16 @@ further_types-loop-held-init g t c = starts _ _ _ _ _ c.in_ok-ready.ensures
 pub further_types-returns-in_err-further_type : goal.further_types-returns-in_err-further_type
 further_types-returns-in_err-further_type g t c =
     let e : c.from_residual-in_err-further_type.result ≡ Err c.in_err-further_type.field-0.0 = search rules in
-    stops_at (λ source depth x. behind_comma (pieces (ty_json (ty_of x)))) c.args.types.now _ _ c.args.out.now _ _ _ _ c.loop-held.invariant c.loop-held-test.true c.held-item.is e c.in_err-further_type.ensures
+    stops_at (λ source depth x. after_comma (pieces (ty_json (ty_of x)))) c.args.types.now _ _ c.args.out.now _ _ _ _ c.loop-held.invariant c.loop-held-test.true c.held-item.is e c.in_err-further_type.ensures
 
 pub further_types-loop-held-preserved : goal.further_types-loop-held-preserved
 further_types-loop-held-preserved g t c =
-    goes_at (λ source depth x. behind_comma (pieces (ty_json (ty_of x)))) c.args.types.now _ _ c.args.out.now c.loop-held.out c.further_type.new.out c.in_ok-further_type.field-0 c.loop-held.invariant c.loop-held-test.true c.held-item.is c.in_ok-further_type.ensures
+    goes_at (λ source depth x. after_comma (pieces (ty_json (ty_of x)))) c.args.types.now _ _ c.args.out.now c.loop-held.out c.further_type.new.out c.in_ok-further_type.field-0 c.loop-held.invariant c.loop-held-test.true c.held-item.is c.in_ok-further_type.ensures
 
 pub further_types-returns : goal.further_types-returns
 further_types-returns g t c =
     let h : length c.args.types.now ≤ c.loop-held.held-index = search rules in
-    list.ends (λ source depth x. behind_comma (pieces (ty_json (ty_of x)))) c.args.types.now _ c.args.out.now _ _ c.loop-held.invariant h
+    list.ends (λ source depth x. after_comma (pieces (ty_json (ty_of x)))) c.args.types.now _ c.args.out.now _ _ c.loop-held.invariant h
 
 pub further_type-returns : goal.further_type-returns
 further_type-returns g t c = last c.and.ensures (first c.blank.ensures) c.ty.ensures
@@ -56,7 +56,7 @@ joined_types-further_types-requires g t c κs within =
 
 pub joined_types-returns-in_ok-ty-in-Some : goal.joined_types-returns-in_ok-ty-in-Some
 joined_types-returns-in_ok-ty-in-Some g t c =
-    first_goes _ _ _ _ _ _ _ (λ source depth. flat_map (λ x. behind_comma (pieces (ty_json (ty_of x)))) c.in-Some.rest.now) (ap (joined_pieces (λ x. pieces (ty_json (ty_of x)))) c.in-Some.ensures.cases.0)
+    first_goes _ _ _ _ _ _ _ (λ source depth. flat_map (λ x. after_comma (pieces (ty_json (ty_of x)))) c.in-Some.rest.now) (ap (joined_pieces (λ x. pieces (ty_json (ty_of x)))) c.in-Some.ensures.cases.0)
     c.in_ok-ty-in-Some.ensures c.further_types.ensures
 
 -- ---- types that hold others

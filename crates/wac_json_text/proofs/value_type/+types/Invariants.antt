@@ -4,11 +4,11 @@ use denote.Param.Weighed.{most}
 use Rattle.wac_ast_types.specs.declared.types.«Type».{size-Type}
 use Rattle.wac_ast_types.specs.declared.types.«Type».TheShapes.{weighed-Type-Result-0}
 use Rattle.wac_ast_types.specs.declared.types.«Type».TheVariants.{the_data}
-use Rattle.wac_json_text.specs.Pieces.{behind_comma, pieces}
+use Rattle.wac_json_text.specs.Pieces.{after_comma, pieces}
 use Rattle.wac_json_text.proofs.value_type.+types.Given as goal
 
 abbrev pub invariant-further_types-loop-held : goal.invariant-further_types-loop-held
-invariant-further_types-loop-held g l = IsSoFar (λ source depth x. behind_comma (pieces (ty_json (ty_of x)))) l.types l.held-index l.fn.out l.out
+invariant-further_types-loop-held g l = IsSoFar (λ source depth x. after_comma (pieces (ty_json (ty_of x)))) l.types l.held-index l.fn.out l.out
 
 abbrev pub decreases-ty : goal.decreases-ty
 decreases-ty g l = 8 * size-Type l.tree.now + 0

@@ -1,5 +1,5 @@
 use Rattle.std.proofs.Common.{◌≡◌, ◌≤◌, ◌<◌, ◌+◌, ◌-◌, ◌∙◌, sym, ap, subst, length, arith, rules, Some}
-use Rattle.wac_lexer.specs.Item.{handed, behind_first}
+use Rattle.wac_lexer.specs.Item.{next_token, after_first_item}
 use Rattle.wac_lexer.specs.Reading.{left, Slices}
 use Rattle.wac_lexer.specs.Span.{Span, end_of}
 use Rattle.wac_recovery.specs.Statements.{after_item, ends, up_to, with_item}
@@ -8,10 +8,10 @@ use Rattle.wac_recovery.proofs.Stepping.{IsBegun, depth_within, ended_before, en
 use Rattle.wac_recovery.proofs.statements.statement_among.Goals as goal
 use Rattle.wac_recovery.proofs.statements.statement_among.Goals.{After-ends}
 
-gives : (c : After-ends) → Some (c.in-Some.item, c.in-Some.span) ≡ handed (left c.loop-item.lexer)
+gives : (c : After-ends) → Some (c.in-Some.item, c.in-Some.span) ≡ next_token (left c.loop-item.lexer)
 gives c = c.in-Some.ensures.steps.gives
 
-rest : (c : After-ends) → left c.next.new.self ≡ behind_first (left c.loop-item.lexer)
+rest : (c : After-ends) → left c.next.new.self ≡ after_first_item (left c.loop-item.lexer)
 rest c = c.in-Some.ensures.steps.rest
 
 same : (c : After-ends) → c.in-Some.span-in-Some-1-own.given.0.0.1 ≡ c.in-Some.span
@@ -29,7 +29,7 @@ stops c = ap (λ n. n + c.len.result) (starts c) ∙ ap (λ n. c.in-Some.span.of
 begins : (c : After-ends) → c.with_item-statement.result ≡ with_item c.loop-item.begun c.in-Some.item c.offset-start.result
 begins c = c.with_item-statement.ensures
 
-peeks : (c : After-ends) → c.peek.result ≡ handed (left c.next.new.self)
+peeks : (c : After-ends) → c.peek.result ≡ next_token (left c.next.new.self)
 peeks c = c.peek.ensures.gives
 
 tests : (c : After-ends) → c.ends.result ≡ ends c.with_item-statement.result c.in-Some.item c.peek.result

@@ -1,4 +1,4 @@
-use Rattle.wac_resolution.proofs.Common.{ap, IfErr-weaker, IfOk-weaker, ident_of, package_path_of, func_type_of, import_type_of, told, reports, items_named}
+use Rattle.wac_resolution.proofs.Common.{ap, IfErr-weaker, IfOk-weaker, ident_of, package_path_of, func_type_of, import_type_of, error_model, reports, items_named}
 use Rattle.wac_resolution.proofs.ImportTypes.{func_kind_imported, path_imported, ident_imported, func_breaks, path_breaks, ident_breaks}
 use Rattle.wac_resolution.proofs.import_kind.import_kind.Goals as goal
 
@@ -14,7 +14,7 @@ returns-in-Package-clause-ok c =
 pub returns-in-Package-clause-err : goal.returns-in-Package-clause-err
 returns-in-Package-clause-err c =
     IfErr-weaker c.path.result _ _
-    (λ e h. reports h (path_breaks c.args.context.now c.args.state.now.graph c.args.root.now c.requires.agrees (import_type_of c.args.ty.now) (package_path_of c.in-Package.from) (told e) (ap import_type_of c.in-Package.is)))
+    (λ e h. reports h (path_breaks c.args.context.now c.args.state.now.graph c.args.root.now c.requires.agrees (import_type_of c.args.ty.now) (package_path_of c.in-Package.from) (error_model e) (ap import_type_of c.in-Package.is)))
     c.path.ensures.err
 
 pub func_kind-requires : goal.func_kind-requires
@@ -29,7 +29,7 @@ returns-in-Func-clause-ok c =
 pub returns-in-Func-clause-err : goal.returns-in-Func-clause-err
 returns-in-Func-clause-err c =
     IfErr-weaker c.func_kind.result _ _
-    (λ e h. reports h (func_breaks c.args.context.now c.args.state.now.graph c.args.root.now c.requires.agrees (import_type_of c.args.ty.now) (func_type_of c.in-Func.func) (told e) (ap import_type_of c.in-Func.is)))
+    (λ e h. reports h (func_breaks c.args.context.now c.args.state.now.graph c.args.root.now c.requires.agrees (import_type_of c.args.ty.now) (func_type_of c.in-Func.func) (error_model e) (ap import_type_of c.in-Func.is)))
     c.func_kind.ensures.err
 
 pub returns-in-Interface-clause-ok : goal.returns-in-Interface-clause-ok
@@ -47,5 +47,5 @@ returns-in-Ident-clause-ok c =
 pub returns-in-Ident-clause-err : goal.returns-in-Ident-clause-err
 returns-in-Ident-clause-err c =
     IfErr-weaker c.kind_of.result _ _
-    (λ e h. reports h (ident_breaks c.args.context.now c.args.state.now.graph c.args.root.now c.requires.agrees (import_type_of c.args.ty.now) (ident_of c.in-Ident.id) (told e) (ap import_type_of c.in-Ident.is)))
+    (λ e h. reports h (ident_breaks c.args.context.now c.args.state.now.graph c.args.root.now c.requires.agrees (import_type_of c.args.ty.now) (ident_of c.in-Ident.id) (error_model e) (ap import_type_of c.in-Ident.is)))
     c.kind_of.ensures.err

@@ -1,4 +1,4 @@
-use Rattle.wac_resolution.proofs.Common.{◌∙◌, sym, inl, err_from_is_err_and, on_ok_weaker, IfErr-weaker, import_statement_of, told, rules_of, reports, memory_told, agrees_kept, placed_kept}
+use Rattle.wac_resolution.proofs.Common.{◌∙◌, sym, inl, err_from_is_err_and, on_ok_weaker, IfErr-weaker, import_statement_of, error_model, rules_of, reports, memory_model, agrees_kept, placed_kept}
 use Rattle.wac_resolution_errors.proofs.Promoted.{promoted_named}
 use Rattle.wac_resolution.proofs.Imported.{type_breaks, name_breaks, statement_went}
 use Rattle.wac_resolution.proofs.imports.import_statement.Goals as goal
@@ -8,7 +8,7 @@ returns-in_err-kind-clause-err g c =
     let p = err_from_is_err_and c.from_residual.result c.from_residual.ensures.1 in
     rw (p.1, p.2)
     (reports c.in_err-kind.ensures.err
-    (type_breaks c.args.given.now.context.now (rules_of g.R.Rules c.args.given.now.rules.now) c.args.state.now.graph c.args.root.now c.args.externs.now (import_statement_of c.args.statement.now) (told c.in_err-kind.field-0.0)))
+    (type_breaks c.args.given.now.context.now (rules_of g.R.Rules c.args.given.now.rules.now) c.args.state.now.graph c.args.root.now c.args.externs.now (import_statement_of c.args.statement.now) (error_model c.in_err-kind.field-0.0)))
 
 pub import_kind-requires-clause-agrees : goal.import_kind-requires-clause-agrees
 import_kind-requires-clause-agrees g c = c.requires.agrees
@@ -22,7 +22,7 @@ import_name-requires g c = c.in_ok-kind.ensures.ok.named
 pub returns-in_err-text-clause-err : goal.returns-in_err-text-clause-err
 returns-in_err-text-clause-err g c =
     let p = err_from_is_err_and c.from_residual-in_err-text.result c.from_residual-in_err-text.ensures.1 in
-    rw p.1 (inl (memory_told p.0 p.2))
+    rw p.1 (inl (memory_model p.0 p.2))
 
 pub import_as-requires-clause-agrees : goal.import_as-requires-clause-agrees
 import_as-requires-clause-agrees g c = agrees_kept c.args.state.now.graph c.import_kind.new.state.graph c.args.root.now c.in_ok-kind.ensures.ok.grows c.requires.agrees
@@ -37,7 +37,7 @@ pub returns-clause-ok : goal.returns-clause-ok
 returns-clause-ok g c =
     on_ok_weaker c.import_as.result
     (λ i. statement_went c.args.given.now.context.now (rules_of g.R.Rules c.args.given.now.rules.now) c.args.state.now.graph c.import_kind.new.state.graph c.args.root.now c.args.externs.now (import_statement_of c.args.statement.now)
-    c.as_str.result.now c.in_ok-kind.kind c.requires c.in_ok-kind.ensures.ok (λ naming. c.as_str.ensures.value ∙ c.in_ok-text.ensures naming)
+    c.as_str.result.now c.in_ok-kind.kind c.requires c.in_ok-kind.ensures.ok (λ numbering. c.as_str.ensures.value ∙ c.in_ok-text.ensures numbering)
     c.import_as.new.state.graph c.import_as.new.root c.import_as.new.externs (rw (sym c.promote-item.ensures) i))
     c.import_as.ensures.ok
 
@@ -45,5 +45,5 @@ pub returns-clause-err : goal.returns-clause-err
 returns-clause-err g c =
     IfErr-weaker c.import_as.result _ _
     (λ e h. reports h (name_breaks c.args.given.now.context.now (rules_of g.R.Rules c.args.given.now.rules.now) c.args.state.now.graph c.import_kind.new.state.graph c.args.root.now c.args.externs.now (import_statement_of c.args.statement.now)
-    c.as_str.result.now c.in_ok-kind.kind c.requires c.in_ok-kind.ensures.ok (λ naming. c.as_str.ensures.value ∙ c.in_ok-text.ensures naming) (told e)))
+    c.as_str.result.now c.in_ok-kind.kind c.requires c.in_ok-kind.ensures.ok (λ numbering. c.as_str.ensures.value ∙ c.in_ok-text.ensures numbering) (error_model e)))
     c.import_as.ensures.err

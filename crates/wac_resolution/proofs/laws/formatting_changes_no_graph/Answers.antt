@@ -9,5 +9,5 @@ pub returns-clause-described : goal.returns-clause-described
 returns-clause-described c = same_alike
 
 pub returns-clause-returned : goal.returns-clause-returned
-returns-clause-returned c = λ packages rules document other declared other_declared r s same h k naming one.
-    results_alike naming (by_key packages) rules document other (returned naming declared r) (returned naming other_declared s) (same_alike document other same) (h naming one) (k naming one)
+returns-clause-returned c = λ packages rules document other declared other_declared r s same h k numbering one.
+    results_alike numbering (by_key packages) rules document other (returned numbering declared r) (returned numbering other_declared s) (same_alike document other same) (h numbering one) (k numbering one)

@@ -1,4 +1,4 @@
-use Rattle.wac_resolution.proofs.Common.{List, map, arith, subst, err_from_is_err_and, statement_of, told, rules_of, reports}
+use Rattle.wac_resolution.proofs.Common.{List, map, arith, subst, err_from_is_err_and, statement_of, error_model, rules_of, reports}
 use Rattle.std.proofs.lemmas.List.{take_all, length-map}
 use Rattle.wac_ast_grammar.specs.Tree.{Statement}
 use Rattle.wac_resolution.specs.Sequences.{StatementsRun}
@@ -17,7 +17,7 @@ returns-in_err-statement-clause-err g c =
     rw (p.1, p.2)
     (reports c.in_err-statement.ensures.err
     (next_breaks c.args.given.now.context.now (rules_of g.R.Rules c.args.given.now.rules.now) c.args.state.now.graph c.loop-next.state.graph c.args.root.now c.loop-next.root c.args.externs.now c.loop-next.externs c.args.statements.now c.loop-next.next-index c.next-item.result
-    (told c.in_err-statement.field-0.0) c.loop-next-test.true c.next-item.is c.loop-next.invariant))
+    (error_model c.in_err-statement.field-0.0) c.loop-next-test.true c.next-item.is c.loop-next.invariant))
 
 pub loop-next-preserved : goal.loop-next-preserved
 loop-next-preserved g c =

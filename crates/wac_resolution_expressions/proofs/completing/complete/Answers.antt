@@ -1,4 +1,4 @@
-use Rattle.wac_resolution_expressions.proofs.Common.{List, map, subst, err_from_is_err_and, by_name, arguments_from, package_name_of, argument_of, Fails, Naming, Spreads, spreads_of, SpreadBroken, told, rules_of, numbers_of, reports, agrees_nodes, slice_get_within}
+use Rattle.wac_resolution_expressions.proofs.Common.{List, map, subst, err_from_is_err_and, by_name, arguments_from, package_name_of, argument_of, Fails, Numbering, Spreads, spreads_of, SpreadBroken, error_model, rules_of, numbers_of, reports, agrees_nodes, slice_get_within}
 use Rattle.wac_ast_statements.specs.declared.expr.InstantiationArgument.{InstantiationArgument}
 use Rattle.wac_resolution_expressions.specs.Spreads.{giving_of, imports_at}
 use Rattle.wac_resolution_expressions.proofs.Checking.{SpreadsGive, somewhere, wrong_after, spreads_fail, loaded_nodes, imports_named, completes}
@@ -15,11 +15,11 @@ check_arguments-requires-clause-stand g c =
 
 pub returns-in_err-spreads-clause-err : goal.returns-in_err-spreads-clause-err
 returns-in_err-spreads-clause-err g c =
-    let e = told c.in_err-spreads.field-0.0 in
+    let e = error_model c.in_err-spreads.field-0.0 in
     let p = err_from_is_err_and c.from_residual.result c.from_residual.ensures.1 in
     rw (p.1, p.2) (reports c.in_err-spreads.ensures.err (λ err.
     spreads_fail (rules_of g.R.Rules c.args.scope.now.rules.now) c.args.state.now.graph (numbers_of c.args.scope.now.root.now.nodes) c.args.of.world (package_name_of c.args.new.now.«package») (arguments_from (map argument_of c.args.new.now.arguments.items)) (by_name c.args.given.now.entries) e
-    (subst (λ (l : List InstantiationArgument). (naming : Naming) → Fails (Spreads (imports_at naming c.args.state.now.graph c.args.of.world)) (SpreadBroken (imports_at naming c.args.state.now.graph c.args.of.world) e) (giving_of naming c.args.state.now.graph (numbers_of c.args.scope.now.root.now.nodes) (by_name c.args.given.now.entries)) (spreads_of (arguments_from (map argument_of l)))) c.deref.ensures.value err)))
+    (subst (λ (l : List InstantiationArgument). (numbering : Numbering) → Fails (Spreads (imports_at numbering c.args.state.now.graph c.args.of.world)) (SpreadBroken (imports_at numbering c.args.state.now.graph c.args.of.world) e) (giving_of numbering c.args.state.now.graph (numbers_of c.args.scope.now.root.now.nodes) (by_name c.args.given.now.entries)) (spreads_of (arguments_from (map argument_of l)))) c.deref.ensures.value err)))
 
 pub returns-in_err-check_arguments-clause-err : goal.returns-in_err-check_arguments-clause-err
 returns-in_err-check_arguments-clause-err g c =
@@ -27,7 +27,7 @@ returns-in_err-check_arguments-clause-err g c =
     c.deref.ensures.value c.in_ok-spreads.ensures.ok in
     let p = err_from_is_err_and c.from_residual-in_err-check_arguments.result c.from_residual-in_err-check_arguments.ensures.1 in
     rw (p.1, p.2) (reports c.in_err-check_arguments.ensures.err (wrong_after c.args.state.now.graph c.spreads.new.state.graph (by_name c.args.given.now.entries) (by_name c.spreads.new.given.entries) (numbers_of c.args.scope.now.root.now.nodes) c.args.of.world (arguments_from (map argument_of c.args.new.now.arguments.items)) gave
-    (rules_of g.R.Rules c.args.scope.now.rules.now) (package_name_of c.args.new.now.«package») (told c.in_err-check_arguments.field-0.0)))
+    (rules_of g.R.Rules c.args.scope.now.rules.now) (package_name_of c.args.new.now.«package») (error_model c.in_err-check_arguments.field-0.0)))
 
 pub instantiate-requires-clause-held : goal.instantiate-requires-clause-held
 instantiate-requires-clause-held g c =

@@ -1,4 +1,4 @@
-use Rattle.wac_resolution_expressions.proofs.Common.{◌≡◌, ◌∙◌, ◌-◌, suc, List, map, sym, ap, subst, length, arith, rules, inr, IfOk, IfErr, OnOk, nat_eq, err_from_is_err_and, IfOk-weaker, IfErr-weaker, on_ok_weaker, Span, PrimaryExpr, arguments_from, by_name, ident_of, package_name_of, argument_of, argument_name_of, expr_of, new_expr_of, primary_expr_of, postfix_expr_of, size_is-NewExpr, Reports, told, rules_of, reports, if_reports, AccessSteps, numbers_of, NodeIs, packages_in}
+use Rattle.wac_resolution_expressions.proofs.Common.{◌≡◌, ◌∙◌, ◌-◌, suc, List, map, sym, ap, subst, length, arith, rules, inr, IfOk, IfErr, OnOk, nat_eq, err_from_is_err_and, IfOk-weaker, IfErr-weaker, on_ok_weaker, Span, PrimaryExpr, arguments_from, by_name, ident_of, package_name_of, argument_of, argument_name_of, expr_of, new_expr_of, primary_expr_of, postfix_expr_of, size_is-NewExpr, Reports, error_model, rules_of, reports, if_reports, AccessSteps, numbers_of, NodeIs, packages_in}
 use denote.Param.Weighed.{most}
 use Rattle.wac_ast_grammar.specs.Tree.{InstantiationArgument}
 use Rattle.wac_ast_statements.specs.declared.expr.InstantiationArgument.{InstantiationArgument as CodeArgument, size-InstantiationArgument}
@@ -22,7 +22,7 @@ pub expression-returns-in_err-node-clause-err : goal.expression-returns-in_err-n
 expression-returns-in_err-node-clause-err g t c =
     let p = err_from_is_err_and c.from_residual.result c.from_residual.ensures.1 in
     rw (p.1, p.2) (reports c.in_err-node.ensures.err (stand.expr_breaks_first c.args.scope.now.context.now (rules_of g.R.Rules c.args.scope.now.rules.now) c.args.state.now.graph (numbers_of c.args.scope.now.root.now.nodes) c.args.expr.now.span
-    (primary_expr_of c.args.expr.now.primary) (map postfix_expr_of c.args.expr.now.postfix.items) (told c.in_err-node.field-0.0)))
+    (primary_expr_of c.args.expr.now.primary) (map postfix_expr_of c.args.expr.now.postfix.items) (error_model c.in_err-node.field-0.0)))
 
 pub expression-accesses-requires-clause-agrees : goal.expression-accesses-requires-clause-agrees
 expression-accesses-requires-clause-agrees g t c = c.in_ok-node.ensures.ok.extends.stand
@@ -44,8 +44,8 @@ pub expression-returns-clause-err : goal.expression-returns-clause-err
 expression-returns-clause-err g t c =
     let s = c.args.scope.now.context.now in
     let rules = rules_of g.R.Rules c.args.scope.now.rules.now in
-    let there = subst (λ (l : List CodePostfixExpr). IfErr c.accesses.result (λ e. Reports (told e) (stand.AccessesBreak s rules c.primary.new.state.graph c.span.result c.in_ok-node.node.0 (map postfix_expr_of l) (told e)))) c.deref.ensures.value c.accesses.ensures.err in
-    let spanned = subst (λ (x : Span). IfErr c.accesses.result (λ e. Reports (told e) (stand.AccessesBreak s rules c.primary.new.state.graph x c.in_ok-node.node.0 (map postfix_expr_of c.args.expr.now.postfix.items) (told e)))) c.span.ensures there in
+    let there = subst (λ (l : List CodePostfixExpr). IfErr c.accesses.result (λ e. Reports (error_model e) (stand.AccessesBreak s rules c.primary.new.state.graph c.span.result c.in_ok-node.node.0 (map postfix_expr_of l) (error_model e)))) c.deref.ensures.value c.accesses.ensures.err in
+    let spanned = subst (λ (x : Span). IfErr c.accesses.result (λ e. Reports (error_model e) (stand.AccessesBreak s rules c.primary.new.state.graph x c.in_ok-node.node.0 (map postfix_expr_of c.args.expr.now.postfix.items) (error_model e)))) c.span.ensures there in
     if_reports _ _
     (λ r. stand.expr_breaks_later s rules c.args.state.now.graph c.primary.new.state.graph (numbers_of c.args.scope.now.root.now.nodes) c.args.expr.now.span (primary_expr_of c.args.expr.now.primary) (map postfix_expr_of c.args.expr.now.postfix.items) c.in_ok-node.node.0 r c.in_ok-node.ensures.ok)
     c.accesses.result spanned
@@ -59,7 +59,7 @@ primary-returns-in-New-clause-ok g t c =
 
 pub primary-returns-in-New-clause-err : goal.primary-returns-in-New-clause-err
 primary-returns-in-New-clause-err g t c =
-    subst (λ (x : PrimaryExpr). IfErr c.instantiation.result (λ e. Reports (told e) (PrimaryBreaks c.args.scope.now.context.now (rules_of g.R.Rules c.args.scope.now.rules.now) c.args.state.now.graph (numbers_of c.args.scope.now.root.now.nodes) x (told e))))
+    subst (λ (x : PrimaryExpr). IfErr c.instantiation.result (λ e. Reports (error_model e) (PrimaryBreaks c.args.scope.now.context.now (rules_of g.R.Rules c.args.scope.now.rules.now) c.args.state.now.graph (numbers_of c.args.scope.now.root.now.nodes) x (error_model e))))
     (sym (ap primary_expr_of c.in-New.is ∙ new_is c.in-New.part)) c.instantiation.ensures.err
 
 pub primary-returns-in-Ident-clause-ok : goal.primary-returns-in-Ident-clause-ok
@@ -76,9 +76,9 @@ primary-returns-in-Ident-clause-err g t c =
     let s = c.args.scope.now.context.now in
     let rules = rules_of g.R.Rules c.args.scope.now.rules.now in
     let graph = c.args.state.now.graph in
-    subst (λ (x : PrimaryExpr). IfErr c.node.result (λ e. Reports (told e) (PrimaryBreaks s rules graph (numbers_of c.args.scope.now.root.now.nodes) x (told e)))) (sym (ap primary_expr_of c.in-Ident.is))
-    (IfErr-weaker c.node.result (λ e. Reports (told e) (IsUndefined (numbers_of c.args.scope.now.root.now.nodes) (ident_of c.in-Ident.id) (told e))) (λ e. Reports (told e) (PrimaryBreaks s rules graph (numbers_of c.args.scope.now.root.now.nodes) (PrimaryExpr.ident (ident_of c.in-Ident.id)) (told e)))
-    (λ e h. reports h (λ b naming one. b)) c.node.ensures.err)
+    subst (λ (x : PrimaryExpr). IfErr c.node.result (λ e. Reports (error_model e) (PrimaryBreaks s rules graph (numbers_of c.args.scope.now.root.now.nodes) x (error_model e)))) (sym (ap primary_expr_of c.in-Ident.is))
+    (IfErr-weaker c.node.result (λ e. Reports (error_model e) (IsUndefined (numbers_of c.args.scope.now.root.now.nodes) (ident_of c.in-Ident.id) (error_model e))) (λ e. Reports (error_model e) (PrimaryBreaks s rules graph (numbers_of c.args.scope.now.root.now.nodes) (PrimaryExpr.ident (ident_of c.in-Ident.id)) (error_model e)))
+    (λ e h. reports h (λ b numbering one. b)) c.node.ensures.err)
 
 pub primary-returns-in-Nested-clause-ok : goal.primary-returns-in-Nested-clause-ok
 primary-returns-in-Nested-clause-ok g t c =
@@ -103,8 +103,8 @@ primary-returns-in-Nested-clause-err g t c =
     let span = (out-NestedExpr c.in-Nested.nested).span in
     let inner : c.deref.result.now ≡ (out-NestedExpr c.in-Nested.nested).inner.value = search rules in
     let is : primary_expr_of c.args.expr.now ≡ PrimaryExpr.nested span (expr_of c.deref.result.now) = ap primary_expr_of c.in-Nested.is ∙ nested_out c.in-Nested.nested ∙ ap (λ y. PrimaryExpr.nested span (expr_of y)) (sym inner) in
-    subst (λ (x : PrimaryExpr). IfErr c.expression.result (λ e. Reports (told e) (PrimaryBreaks s rules old declared x (told e)))) (sym is)
-    (IfErr-weaker c.expression.result (λ e. Reports (told e) (ExprBreaks s rules old declared (expr_of c.deref.result.now) (told e))) (λ e. Reports (told e) (PrimaryBreaks s rules old declared (PrimaryExpr.nested span (expr_of c.deref.result.now)) (told e))) (λ e h. h) c.expression.ensures.err)
+    subst (λ (x : PrimaryExpr). IfErr c.expression.result (λ e. Reports (error_model e) (PrimaryBreaks s rules old declared x (error_model e)))) (sym is)
+    (IfErr-weaker c.expression.result (λ e. Reports (error_model e) (ExprBreaks s rules old declared (expr_of c.deref.result.now) (error_model e))) (λ e. Reports (error_model e) (PrimaryBreaks s rules old declared (PrimaryExpr.nested span (expr_of c.deref.result.now)) (error_model e))) (λ e h. h) c.expression.ensures.err)
 
 -- ---- an instance
 
@@ -112,7 +112,7 @@ pub instantiation-returns-in_err-of-clause-err : goal.instantiation-returns-in_e
 instantiation-returns-in_err-of-clause-err g t c =
     let p = err_from_is_err_and c.from_residual.result c.from_residual.ensures.1 in
     rw (p.1, p.2) (reports c.in_err-of.ensures.err (stand.unknown_breaks c.args.scope.now.context.now (rules_of g.R.Rules c.args.scope.now.rules.now) c.args.state.now.graph (numbers_of c.args.scope.now.root.now.nodes) c.args.new.now.span (package_name_of c.args.new.now.«package»)
-    (arguments_from (map argument_of c.args.new.now.arguments.items)) (told c.in_err-of.field-0.0)))
+    (arguments_from (map argument_of c.args.new.now.arguments.items)) (error_model c.in_err-of.field-0.0)))
 
 pub instantiation-returns-in_err-arguments-clause-err : goal.instantiation-returns-in_err-arguments-clause-err
 instantiation-returns-in_err-arguments-clause-err g t c =
@@ -120,7 +120,7 @@ instantiation-returns-in_err-arguments-clause-err g t c =
     let rules = rules_of g.R.Rules c.args.scope.now.rules.now in
     let declared = numbers_of c.args.scope.now.root.now.nodes in
     let loaded = c.instantiable.new.state.graph in
-    let e = told c.in_err-arguments.field-0.0 in
+    let e = error_model c.in_err-arguments.field-0.0 in
     let none = ap by_name c.new-given.ensures.empty in
     let p = err_from_is_err_and c.from_residual-in_err-arguments.result c.from_residual-in_err-arguments.ensures.1 in
     rw (p.1, p.2) (reports c.in_err-arguments.ensures.err (λ err.
@@ -175,8 +175,8 @@ instantiation-returns-clause-err g t c =
     let args = arguments_from (map argument_of c.args.new.now.arguments.items) in
     let given = by_name c.arguments.new.given.entries in
     let gave = subst (λ (l : List CodeArgument). ArgumentSteps s rules loaded mid (by_name c.new-given.result.entries) given declared c.in_ok-of.of.world (arguments_from (map argument_of l))) c.deref.ensures.value c.in_ok-arguments.ensures.ok in
-    IfErr-weaker c.complete.result (λ e. Reports (told e) (FailsToComplete rules mid declared c.in_ok-of.of.world name args given (told e))) (λ e. Reports (told e) (PrimaryBreaks s rules old declared (new_expr_of c.args.new.now) (told e)))
-    (λ e h. reports h (stand.completing_breaks s rules old loaded mid declared c.args.new.now.span name args c.in_ok-of.of given c.in_ok-of.ensures.ok (rw (ap by_name c.new-given.ensures.empty) at gave) (told e))) c.complete.ensures.err
+    IfErr-weaker c.complete.result (λ e. Reports (error_model e) (FailsToComplete rules mid declared c.in_ok-of.of.world name args given (error_model e))) (λ e. Reports (error_model e) (PrimaryBreaks s rules old declared (new_expr_of c.args.new.now) (error_model e)))
+    (λ e h. reports h (stand.completing_breaks s rules old loaded mid declared c.args.new.now.span name args c.in_ok-of.of given c.in_ok-of.ensures.ok (rw (ap by_name c.new-given.ensures.empty) at gave) (error_model e))) c.complete.ensures.err
 
 pub instantiation-arguments-requires : goal.instantiation-arguments-requires
 instantiation-arguments-requires g t c κs within =
@@ -219,7 +219,7 @@ arguments-returns-in_err-argument-clause-err g t c =
     let last : c.loop-one.left - 1 ≡ length c.args.arguments.now - suc c.loop-one.one-index = omega (arith, c.loop-one.invariant.left) in
     rw (p.1, p.2) (reports c.in_err-argument.ensures.err (stand.argument_breaks c.args.scope.now.context.now (rules_of g.R.Rules c.args.scope.now.rules.now) c.args.state.now.graph (by_name c.args.given.now.entries) (numbers_of c.args.scope.now.root.now.nodes) c.args.world
     c.loop-one.state.graph (by_name c.loop-one.given.entries) c.args.arguments.now c.loop-one.one-index c.one-item.result c.loop-one-test.true c.one-item.is c.requires.world c.loop-one.invariant.so_far
-    (nat_eq (c.loop-one.left - 1) 0) (told c.in_err-argument.field-0.0) (ap (λ k. nat_eq k 0) last)))
+    (nat_eq (c.loop-one.left - 1) 0) (error_model c.in_err-argument.field-0.0) (ap (λ k. nat_eq k 0) last)))
 
 pub arguments-loop-one-preserved : goal.arguments-loop-one-preserved
 arguments-loop-one-preserved g t c =
@@ -264,8 +264,8 @@ argument-returns-in-Fill-clause-err g t c =
     let graph = c.args.state.now.graph in
     let given = by_name c.args.given.now.entries in
     let declared = numbers_of c.args.scope.now.root.now.nodes in
-    subst (λ (x : CodeArgument). IfErr c.check_last.result (λ e. Reports (told e) (ArgumentBreaks s rules graph given declared c.args.world c.args.next.now.is_last (argument_of x) (told e)))) (sym c.in-Fill.is)
-    (IfErr-weaker c.check_last.result (λ e. ArgumentBreaks s rules graph given declared c.args.world c.args.next.now.is_last (InstantiationArgument.fill c.in-Fill.span) (told e)) (λ e. Reports (told e) (ArgumentBreaks s rules graph given declared c.args.world c.args.next.now.is_last (InstantiationArgument.fill c.in-Fill.span) (told e)))
+    subst (λ (x : CodeArgument). IfErr c.check_last.result (λ e. Reports (error_model e) (ArgumentBreaks s rules graph given declared c.args.world c.args.next.now.is_last (argument_of x) (error_model e)))) (sym c.in-Fill.is)
+    (IfErr-weaker c.check_last.result (λ e. ArgumentBreaks s rules graph given declared c.args.world c.args.next.now.is_last (InstantiationArgument.fill c.in-Fill.span) (error_model e)) (λ e. Reports (error_model e) (ArgumentBreaks s rules graph given declared c.args.world c.args.next.now.is_last (InstantiationArgument.fill c.in-Fill.span) (error_model e)))
     (λ e b. inr b) (stand.fill_breaks s rules graph given declared c.args.world c.args.next.now.is_last c.in-Fill.span c.check_last.result c.check_last.ensures.err))
 
 pub argument-returns-in-Inferred-clause-ok : goal.argument-returns-in-Inferred-clause-ok
@@ -286,7 +286,7 @@ argument-returns-in-Inferred-clause-err g t c =
     let graph = c.args.state.now.graph in
     let before = by_name c.args.given.now.entries in
     let declared = numbers_of c.args.scope.now.root.now.nodes in
-    subst (λ (x : CodeArgument). IfErr c.give_inferred.result (λ e. Reports (told e) (ArgumentBreaks s rules graph before declared c.args.world c.args.next.now.is_last (argument_of x) (told e)))) (sym c.in-Inferred.is)
+    subst (λ (x : CodeArgument). IfErr c.give_inferred.result (λ e. Reports (error_model e) (ArgumentBreaks s rules graph before declared c.args.world c.args.next.now.is_last (argument_of x) (error_model e)))) (sym c.in-Inferred.is)
     (if_reports _ _ (stand.inferred_breaks_on s rules graph before declared c.args.world c.args.next.now.is_last (ident_of c.in-Inferred.id)) c.give_inferred.result c.give_inferred.ensures.err)
 
 pub argument-returns-in_err-node-in-Named-clause-err : goal.argument-returns-in_err-node-in-Named-clause-err
@@ -296,7 +296,7 @@ argument-returns-in_err-node-in-Named-clause-err g t c =
     let graph = c.args.state.now.graph in
     let before = by_name c.args.given.now.entries in
     let declared = numbers_of c.args.scope.now.root.now.nodes in
-    let e = told c.in_err-node-in-Named.field-0.0 in
+    let e = error_model c.in_err-node-in-Named.field-0.0 in
     let p = err_from_is_err_and c.from_residual.result c.from_residual.ensures.1 in
     rw (p.1, p.2) (reports c.in_err-node-in-Named.ensures.err (λ err. subst (λ (x : CodeArgument). ArgumentBreaks s rules graph before declared c.args.world c.args.next.now.is_last (argument_of x) e) (sym c.in-Named.is)
     (stand.named_breaks_first s rules graph before declared c.args.world c.args.next.now.is_last (argument_name_of c.in-Named.named.name) (expr_of c.in-Named.named.expr) e err)))
@@ -324,7 +324,7 @@ argument-returns-in_ok-node-in-Named-clause-err g t c =
     let mid = c.expression.new.state.graph in
     let before = by_name c.args.given.now.entries in
     let declared = numbers_of c.args.scope.now.root.now.nodes in
-    subst (λ (x : CodeArgument). IfErr c.give_named.result (λ e. Reports (told e) (ArgumentBreaks s rules graph before declared c.args.world c.args.next.now.is_last (argument_of x) (told e)))) (sym c.in-Named.is)
+    subst (λ (x : CodeArgument). IfErr c.give_named.result (λ e. Reports (error_model e) (ArgumentBreaks s rules graph before declared c.args.world c.args.next.now.is_last (argument_of x) (error_model e)))) (sym c.in-Named.is)
     (if_reports _ _
     (λ r. stand.named_breaks_later s rules graph before declared c.args.world mid c.args.next.now.is_last (argument_name_of c.in-Named.named.name) (expr_of c.in-Named.named.expr) c.in_ok-node-in-Named.node.0 r c.requires.world c.in_ok-node-in-Named.ensures.ok)
     c.give_named.result c.give_named.ensures.err)

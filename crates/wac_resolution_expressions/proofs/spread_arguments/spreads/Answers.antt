@@ -1,4 +1,4 @@
-use Rattle.wac_resolution_expressions.proofs.Common.{refl, map, subst, arith, List, err_from_is_err_and, take_all, length-map, arguments_from, by_name, argument_of, told, spreads_of, numbers_of, reports, agrees_nodes}
+use Rattle.wac_resolution_expressions.proofs.Common.{refl, map, subst, arith, List, err_from_is_err_and, take_all, length-map, arguments_from, by_name, argument_of, error_model, spreads_of, numbers_of, reports, agrees_nodes}
 use Rattle.wac_ast_grammar.specs.Tree.{InstantiationArgument}
 use Rattle.wac_resolution_expressions.proofs.SpreadSteps.{SpreadsGave, gave_none, world_kept, spreads_next, spreads_break}
 use Rattle.wac_resolution_expressions.proofs.spread_arguments.spreads.Goals as goal
@@ -19,7 +19,7 @@ pub returns-in_err-spread_argument-clause-err : goal.returns-in_err-spread_argum
 returns-in_err-spread_argument-clause-err c =
     let p = err_from_is_err_and c.from_residual.result c.from_residual.ensures.1 in
     rw (p.1, p.2) (reports c.in_err-spread_argument.ensures.err (spreads_break c.args.state.now.graph c.loop-argument.state.graph c.args.world (numbers_of c.args.root.now.nodes) (by_name c.args.given.now.entries) (by_name c.loop-argument.given.entries) c.args.arguments.now c.loop-argument.argument-index c.argument-item.result
-    c.loop-argument-test.true c.argument-item.is c.loop-argument.invariant (told c.in_err-spread_argument.field-0.0)))
+    c.loop-argument-test.true c.argument-item.is c.loop-argument.invariant (error_model c.in_err-spread_argument.field-0.0)))
 
 pub loop-argument-preserved : goal.loop-argument-preserved
 loop-argument-preserved c =

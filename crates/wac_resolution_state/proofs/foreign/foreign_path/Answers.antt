@@ -1,4 +1,4 @@
-use Rattle.wac_resolution_state.proofs.Common.{refl, inr, package_path_of, held_of, told, key_of_path, if_reports}
+use Rattle.wac_resolution_state.proofs.Common.{refl, inr, package_path_of, held_of, error_model, key_of_path, if_reports}
 use Rattle.wac_resolution_state.proofs.Finding.{foreign_found, foreign_broken, foreign_unknown}
 use Rattle.wac_resolution_state.proofs.foreign.foreign_path.Goals as goal
 
@@ -19,4 +19,4 @@ returns-in-Some-clause-err c =
 pub returns-in_ok-unknown-in-None-clause-err : goal.returns-in_ok-unknown-in-None-clause-err
 returns-in_ok-unknown-in-None-clause-err c =
     let none = rw c.in-None.is at c.in_ok-loaded.ensures in
-    inr (foreign_unknown c.args.context.now (package_path_of c.args.path.now) (key_of_path (package_path_of c.args.path.now)) (told c.in_ok-unknown-in-None.field-0) refl none c.in_ok-unknown-in-None.ensures)
+    inr (foreign_unknown c.args.context.now (package_path_of c.args.path.now) (key_of_path (package_path_of c.args.path.now)) (error_model c.in_ok-unknown-in-None.field-0) refl none c.in_ok-unknown-in-None.ensures)

@@ -1,6 +1,6 @@
 use Rattle.wac_resolution_state.proofs.Common.{sym, key_of, held_of}
 use Rattle.wac_resolution_state.specs.Context.{packages_in}
-use Rattle.wac_resolution_state.proofs.Loading.{loads_held, loads_added, not_handed}
+use Rattle.wac_resolution_state.proofs.Loading.{loads_held, loads_added, not_supplied}
 use Rattle.wac_resolution_state.proofs.packages.package.Goals as goal
 
 pub returns-in-Some : goal.returns-in-Some
@@ -13,4 +13,4 @@ returns-in_ok-id-in-Some-supplied c =
     added.ok added.kinds added.names (held_of c.package-held.result) (sym c.in-Some-supplied.ensures) c.requires c.package-held.ensures.found c.package-held.ensures.named
 
 pub returns-in-None : goal.returns-in-None
-returns-in-None c = not_handed (packages_in c.args.context.now) (key_of c.args.key.now) (sym c.in-None.ensures)
+returns-in-None c = not_supplied (packages_in c.args.context.now) (key_of c.args.key.now) (sym c.in-None.ensures)

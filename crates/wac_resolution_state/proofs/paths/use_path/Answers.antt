@@ -1,4 +1,4 @@
-use Rattle.wac_resolution_state.proofs.Common.{sym, subst, IfOk, IfErr, ident_of, use_path_of, Naming, Reports, told, UsePathBroken, UseNames, if_reports}
+use Rattle.wac_resolution_state.proofs.Common.{sym, subst, IfOk, IfErr, ident_of, use_path_of, Numbering, Reports, error_model, UsePathBroken, UseNames, if_reports}
 use Rattle.wac_resolution_state.specs.Bindings.{values_of}
 use Rattle.wac_resolution_state.specs.Named.{scope_of}
 use Rattle.wac_ast_uses.specs.declared.uses.UsePath.{UsePath}
@@ -10,10 +10,10 @@ use Rattle.wac_resolution_state.proofs.paths.use_path.Goals as goal
 pub returns-in-Package-clause-ok : goal.returns-in-Package-clause-ok
 returns-in-Package-clause-ok c =
     subst (λ (x : UsePath). IfOk c.path.result (λ k. Found (packages_in c.args.context.now) c.args.state.now.graph c.path.new.state.graph
-    (λ naming m. UseNames (context_of naming c.args.context.now) (scope_of naming c.args.state.now.graph (values_of c.args.root.now)) (use_path_of x) m) k))
+    (λ numbering m. UseNames (context_of numbering c.args.context.now) (scope_of numbering c.args.state.now.graph (values_of c.args.root.now)) (use_path_of x) m) k))
     (sym c.in-Package.is) c.path.ensures.ok
 
 pub returns-in-Ident-clause-err : goal.returns-in-Ident-clause-err
 returns-in-Ident-clause-err c =
-    subst (λ (x : UsePath). IfErr c.kind_of.result (λ e. Reports (told e) ((naming : Naming) → UsePathBroken (context_of naming c.args.context.now) (scope_of naming c.args.state.now.graph (values_of c.args.root.now)) (use_path_of x) (told e))))
+    subst (λ (x : UsePath). IfErr c.kind_of.result (λ e. Reports (error_model e) ((numbering : Numbering) → UsePathBroken (context_of numbering c.args.context.now) (scope_of numbering c.args.state.now.graph (values_of c.args.root.now)) (use_path_of x) (error_model e))))
     (sym c.in-Ident.is) (if_reports _ _ (ident_broken c.args.state.now.graph (values_of c.args.root.now) (ident_of c.in-Ident.id)) c.kind_of.result c.kind_of.ensures.err)

@@ -1,4 +1,4 @@
-use Rattle.wac_resolution_state.proofs.Common.{sym, subst, IfOk, IfErr, ident_of, world_ref_of, Naming, Reports, told, WorldNames, if_reports}
+use Rattle.wac_resolution_state.proofs.Common.{sym, subst, IfOk, IfErr, ident_of, world_ref_of, Numbering, Reports, error_model, WorldNames, if_reports}
 use Rattle.wac_resolution_state.specs.Bindings.{values_of}
 use Rattle.wac_resolution_state.specs.Named.{scope_of}
 use Rattle.wac_ast_uses.specs.declared.includes.WorldRef.{WorldRef}
@@ -11,10 +11,10 @@ use Rattle.wac_resolution_state.proofs.paths.world_ref.Goals as goal
 pub returns-in-Package-clause-ok : goal.returns-in-Package-clause-ok
 returns-in-Package-clause-ok c =
     subst (λ (x : WorldRef). IfOk c.path.result (λ k. Found (packages_in c.args.context.now) c.args.state.now.graph c.path.new.state.graph
-    (λ naming m. WorldNames (context_of naming c.args.context.now) (scope_of naming c.args.state.now.graph (values_of c.args.root.now)) (world_ref_of x) m) k))
+    (λ numbering m. WorldNames (context_of numbering c.args.context.now) (scope_of numbering c.args.state.now.graph (values_of c.args.root.now)) (world_ref_of x) m) k))
     (sym c.in-Package.is) c.path.ensures.ok
 
 pub returns-in-Ident-clause-err : goal.returns-in-Ident-clause-err
 returns-in-Ident-clause-err c =
-    subst (λ (x : WorldRef). IfErr c.kind_of.result (λ e. Reports (told e) ((naming : Naming) → WorldRefBroken (context_of naming c.args.context.now) (scope_of naming c.args.state.now.graph (values_of c.args.root.now)) (world_ref_of x) (told e))))
+    subst (λ (x : WorldRef). IfErr c.kind_of.result (λ e. Reports (error_model e) ((numbering : Numbering) → WorldRefBroken (context_of numbering c.args.context.now) (scope_of numbering c.args.state.now.graph (values_of c.args.root.now)) (world_ref_of x) (error_model e))))
     (sym c.in-Ident.is) (if_reports _ _ (ident_broken c.args.state.now.graph (values_of c.args.root.now) (ident_of c.in-Ident.id)) c.kind_of.result c.kind_of.ensures.err)

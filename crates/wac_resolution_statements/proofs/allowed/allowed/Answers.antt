@@ -4,9 +4,9 @@ use Rattle.wac_resolution_statements.proofs.Meanings.{allowed_means, allowed_nam
 use Rattle.wac_resolution_statements.proofs.allowed.allowed.Goals as goal
 
 pub returns-clause-means : goal.returns-clause-means
-returns-clause-means c naming =
-    ap (option_map (means naming c.args.state.now.graph)) (c.written.ensures ∙ ap (λ (es : List Entry). allowed_kind es c.args.world.0 c.args.name.now) c.types-types.ensures.types)
-    ∙ allowed_means c.args.state.now.graph c.types-types.ensures.means c.types-types.ensures.entries naming c.args.world c.args.name.now c.requires
+returns-clause-means c numbering =
+    ap (option_map (means numbering c.args.state.now.graph)) (c.written.ensures ∙ ap (λ (es : List Entry). allowed_kind es c.args.world.0 c.args.name.now) c.types-types.ensures.types)
+    ∙ allowed_means c.args.state.now.graph c.types-types.ensures.means c.types-types.ensures.entries numbering c.args.world c.args.name.now c.requires
 
 pub returns-clause-named : goal.returns-clause-named
 returns-clause-named c =

@@ -8,7 +8,7 @@ use Rattle.wac_resolution_statements.proofs.definition.define.Goals as goal
 pub returns-in_err-check_unexported-clause-err : goal.returns-in_err-check_unexported-clause-err
 returns-in_err-check_unexported-clause-err c =
     let p = err_from_is_err_and c.from_residual.result c.from_residual.ensures.1 in
-    rw (p.1, p.2) (reports c.in_err-check_unexported.ensures.err (λ err naming. inl (err naming (numbers_of c.args.root.now.nodes) (places_in c.args.root.now c.args.externs.now) refl)))
+    rw (p.1, p.2) (reports c.in_err-check_unexported.ensures.err (λ err numbering. inl (err numbering (numbers_of c.args.root.now.nodes) (places_in c.args.root.now c.args.externs.now) refl)))
 
 pub add_export-requires : goal.add_export-requires
 add_export-requires c = fresh_too c.args.id.now.string.now c.args.state.now.graph.exports (exported_in c.args.externs.now) (sym c.requires.placed.exported) c.in_ok-check_unexported.ensures.ok
@@ -25,7 +25,7 @@ bind-requires-clause-agrees c =
 pub returns-in_err-bind-clause-err : goal.returns-in_err-bind-clause-err
 returns-in_err-bind-clause-err c =
     let p = err_from_is_err_and c.from_residual-in_err-bind.result c.from_residual-in_err-bind.ensures.1 in
-    rw (p.1, p.2) (reports c.in_err-bind.ensures.err (λ err naming. inr (c.in_ok-check_unexported.ensures.ok, err naming (places_in c.args.root.now c.args.externs.now) refl)))
+    rw (p.1, p.2) (reports c.in_err-bind.ensures.err (λ err numbering. inr (c.in_ok-check_unexported.ensures.ok, err numbering (places_in c.args.root.now c.args.externs.now) refl)))
 
 pub returns-clause-ok : goal.returns-clause-ok
 returns-clause-ok c =

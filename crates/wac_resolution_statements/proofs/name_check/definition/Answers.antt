@@ -3,16 +3,16 @@ use Rattle.wac_resolution_statements.proofs.Checks.{node_there, defined_here, no
 use Rattle.wac_resolution_statements.proofs.name_check.definition.Goals as goal
 
 pub returns-in_err-node-clause-kind : goal.returns-in_err-node-clause-kind
-returns-in_err-node-clause-kind c naming =
+returns-in_err-node-clause-kind c numbering =
     let none : c.from_residual.result ≡ None = search rules in
-    ap (option_map (λ (d : ItemKind × Span). means naming c.args.state.now.graph d.0)) none
-    ∙ unbound c.args.state.now.graph c.args.root.now c.args.name.now (sym c.find.ensures ∙ c.in_err-node.was) naming
+    ap (option_map (λ (d : ItemKind × Span). means numbering c.args.state.now.graph d.0)) none
+    ∙ unbound c.args.state.now.graph c.args.root.now c.args.name.now (sym c.find.ensures ∙ c.in_err-node.was) numbering
 
 pub returns-in_err-span-clause-kind : goal.returns-in_err-span-clause-kind
-returns-in_err-span-clause-kind c naming =
+returns-in_err-span-clause-kind c numbering =
     let none : c.from_residual-in_err-span.result ≡ None = search rules in
-    ap (option_map (λ (d : ItemKind × Span). means naming c.args.state.now.graph d.0)) none
-    ∙ unplaced c.args.state.now.graph c.args.root.now c.args.name.now (sym c.place.ensures ∙ c.in_err-span.was) naming
+    ap (option_map (λ (d : ItemKind × Span). means numbering c.args.state.now.graph d.0)) none
+    ∙ unplaced c.args.state.now.graph c.args.root.now c.args.name.now (sym c.place.ensures ∙ c.in_err-span.was) numbering
 
 pub node-requires : goal.node-requires
 node-requires c = node_there c.args.state.now.graph c.args.root.now c.args.name.now c.in_ok-node.node c.requires (sym c.find.ensures ∙ c.in_ok-node.was)

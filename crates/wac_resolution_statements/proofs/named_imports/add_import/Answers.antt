@@ -13,7 +13,7 @@ bind-requires-clause-agrees c = agrees_imported c.args.state.now.graph c.add_imp
 pub returns-in_err-bind-clause-err : goal.returns-in_err-bind-clause-err
 returns-in_err-bind-clause-err c =
     let p = err_from_is_err_and c.from_residual-in_err-bind.result c.from_residual-in_err-bind.ensures.1 in
-    rw (p.1, p.2) (reports c.in_err-bind.ensures.err (λ err naming all same. err naming all same))
+    rw (p.1, p.2) (reports c.in_err-bind.ensures.err (λ err numbering all same. err numbering all same))
 
 pub add_import-requires-2 : goal.add_import-requires-2
 add_import-requires-2 c = fresh_too c.args.name.now.text.now c.args.state.now.graph.imports (imported_in c.args.externs.now) (sym c.requires.placed.imported) c.requires.new

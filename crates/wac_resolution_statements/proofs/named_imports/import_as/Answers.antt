@@ -1,4 +1,4 @@
-use Rattle.wac_resolution_statements.proofs.Common.{err_from_is_err_and, told, reports}
+use Rattle.wac_resolution_statements.proofs.Common.{err_from_is_err_and, error_model, reports}
 use Rattle.wac_resolution_statements.specs.Externs.{help_of}
 use Rattle.wac_ast_worlds.specs.Worlds.{import_statement_of}
 use Rattle.wac_resolution_statements.proofs.ImportTests.{imported_breaks, invalid_breaks, bound_breaks, imports_as}
@@ -11,7 +11,7 @@ returns-in_err-check_unimported-clause-err g c =
     rw (p.1, p.2)
     (reports c.in_err-check_unimported.ensures.err
     (imported_breaks (g.R.Rules.named c.args.rules.now) c.args.state.now.graph c.args.root.now c.args.externs.now (import_statement_of c.args.import.now.statement.now) c.args.import.now.text.now n.text.now n.span (help_of n)
-    (record { of_text = c.new_name-name.ensures.text; of_span = c.new_name-name.ensures.span; of_help = c.new_name-name.ensures.help }) (told c.in_err-check_unimported.field-0.0)))
+    (record { of_text = c.new_name-name.ensures.text; of_span = c.new_name-name.ensures.span; of_help = c.new_name-name.ensures.help }) (error_model c.in_err-check_unimported.field-0.0)))
 
 pub returns-in_err-check_name-clause-err : goal.returns-in_err-check_name-clause-err
 returns-in_err-check_name-clause-err g c =
@@ -20,7 +20,7 @@ returns-in_err-check_name-clause-err g c =
     rw (p.1, p.2)
     (reports c.in_err-check_name.ensures.err
     (invalid_breaks (g.R.Rules.named c.args.rules.now) c.args.state.now.graph c.args.root.now c.args.externs.now (import_statement_of c.args.import.now.statement.now) c.args.import.now.text.now n.text.now n.span (help_of n)
-    (record { of_text = c.new_name-name.ensures.text; of_span = c.new_name-name.ensures.span; of_help = c.new_name-name.ensures.help }) (told c.in_err-check_name.field-0.0) c.in_ok-check_unimported.ensures.ok))
+    (record { of_text = c.new_name-name.ensures.text; of_span = c.new_name-name.ensures.span; of_help = c.new_name-name.ensures.help }) (error_model c.in_err-check_name.field-0.0) c.in_ok-check_unimported.ensures.ok))
 
 pub add_import-requires-clause-new : goal.add_import-requires-clause-new
 add_import-requires-clause-new g c = c.in_ok-check_unimported.ensures.ok.in_graph
@@ -32,7 +32,7 @@ returns-in_err-add_import-clause-err g c =
     rw (p.1, p.2)
     (reports c.in_err-add_import.ensures.err
     (bound_breaks (g.R.Rules.named c.args.rules.now) c.args.state.now.graph c.args.root.now c.args.externs.now (import_statement_of c.args.import.now.statement.now) c.args.import.now.text.now n.text.now n.span (help_of n)
-    (record { of_text = c.new_name-name.ensures.text; of_span = c.new_name-name.ensures.span; of_help = c.new_name-name.ensures.help }) (told c.in_err-add_import.field-0.0) c.in_ok-check_unimported.ensures.ok c.in_ok-check_name.ensures.ok))
+    (record { of_text = c.new_name-name.ensures.text; of_span = c.new_name-name.ensures.span; of_help = c.new_name-name.ensures.help }) (error_model c.in_err-add_import.field-0.0) c.in_ok-check_unimported.ensures.ok c.in_ok-check_name.ensures.ok))
 
 pub returns-clause-ok : goal.returns-clause-ok
 returns-clause-ok g c =

@@ -1,4 +1,4 @@
-use Rattle.wac_resolution_statements.proofs.Common.{List, [], ◌∷◌, ℕ, ap, subst, string_bytes, err_from_is_err_and, ItemKind, by_name, Names, arguments_of, told, reports, rules_of}
+use Rattle.wac_resolution_statements.proofs.Common.{List, [], ◌∷◌, ℕ, ap, subst, string_bytes, err_from_is_err_and, ItemKind, by_name, Names, arguments_of, error_model, reports, rules_of}
 use Rattle.wac_resolution_statements.specs.Imported.{of_kind, left_open}
 use Rattle.wac_resolution_statements.specs.Testing.{testing, Allowed, Denied, AllAllowed, SomeDenied, nowhere}
 use Rattle.wac_resolution_statements.proofs.Firsts.{through_more, through_all, fails_within, first_there, left_there}
@@ -13,8 +13,8 @@ pub returns-in_err-check_open_import-clause-err : goal.returns-in_err-check_open
 returns-in_err-check_open_import-clause-err g c =
     let p = err_from_is_err_and c.from_residual.result c.from_residual.ensures.1 in
     rw (p.1, p.2) (reports c.in_err-check_open_import.ensures.err (λ err. fails_within (λ (x : List ℕ × ItemKind). Allowed (testing c.args.state.now.graph (rules_of g.R.Rules c.args.rules.now) c.args.target.now) (of_kind c.args.state.now.graph x)) (λ (x : List ℕ × ItemKind) e. Denied (testing c.args.state.now.graph (rules_of g.R.Rules c.args.rules.now) c.args.target.now) (of_kind c.args.state.now.graph x) (nowhere x) e) (left_open (arguments_of c.args.state.now.graph c.args.node.0) (by_name c.args.imports.now.entries)) _ (left_open (arguments_of c.args.state.now.graph c.args.node.0) (by_name c.next.new.self)) (left_open (arguments_of c.args.state.now.graph c.args.node.0) ((string_bytes c.in-Some.name.now, c.in-Some.kind.now) ∷ []))
-    (told c.in_err-check_open_import.field-0.0) (open_rest (arguments_of c.args.state.now.graph c.args.node.0) _ (by_name c.next.new.self) (string_bytes c.in-Some.name.now, c.in-Some.kind.now) (ap by_name c.in-Some.ensures.steps)) c.loop-name.invariant.through
-    (subst (λ (n : List ℕ). SomeDenied (testing c.args.state.now.graph (rules_of g.R.Rules c.args.rules.now) c.args.target.now) (of_kind c.args.state.now.graph) nowhere (left_open (arguments_of c.args.state.now.graph c.args.node.0) ((n, c.in-Some.kind.now) ∷ [])) (told c.in_err-check_open_import.field-0.0)) c.as_str.ensures.value err)))
+    (error_model c.in_err-check_open_import.field-0.0) (open_rest (arguments_of c.args.state.now.graph c.args.node.0) _ (by_name c.next.new.self) (string_bytes c.in-Some.name.now, c.in-Some.kind.now) (ap by_name c.in-Some.ensures.steps)) c.loop-name.invariant.through
+    (subst (λ (n : List ℕ). SomeDenied (testing c.args.state.now.graph (rules_of g.R.Rules c.args.rules.now) c.args.target.now) (of_kind c.args.state.now.graph) nowhere (left_open (arguments_of c.args.state.now.graph c.args.node.0) ((n, c.in-Some.kind.now) ∷ [])) (error_model c.in_err-check_open_import.field-0.0)) c.as_str.ensures.value err)))
 
 pub loop-name-preserved : goal.loop-name-preserved
 loop-name-preserved g c = record {

@@ -8,7 +8,7 @@ pub returns-in-None-clause-ok : goal.returns-in-None-clause-ok
 returns-in-None-clause-ok g c =
     rw c.in-None.is
     (on_ok _ _ c.export_unnamed.result
-    (λ e x same. subst (λ (p : Span). Exported p c.args.state.now.graph c.export_unnamed.new.state.graph c.args.scope.now.root.now c.args.externs.now c.export_unnamed.new.externs (λ naming old new. Under (g.R.Rules.named c.args.scope.now.rules.now) (λ s. ExportsBy s (at old c.args.exported.now.node.0) ExportOptions.none new))) (sym same) e)
+    (λ e x same. subst (λ (p : Span). Exported p c.args.state.now.graph c.export_unnamed.new.state.graph c.args.scope.now.root.now c.args.externs.now c.export_unnamed.new.externs (λ numbering old new. Under (g.R.Rules.named c.args.scope.now.rules.now) (λ s. ExportsBy s (at old c.args.exported.now.node.0) ExportOptions.none new))) (sym same) e)
     c.export_unnamed.ensures.ok)
 
 pub returns-in-None-clause-err : goal.returns-in-None-clause-err
@@ -24,4 +24,4 @@ pub returns-in-Rename-clause-ok : goal.returns-in-Rename-clause-ok
 returns-in-Rename-clause-ok g c = rw c.in-Rename.is (on_ok _ _ c.export_renamed.result (λ e x same. e) c.export_renamed.ensures.ok)
 
 pub returns-in-Rename-clause-err : goal.returns-in-Rename-clause-err
-returns-in-Rename-clause-err g c = rw c.in-Rename.is (if_err _ _ c.export_renamed.result (λ e h. reports h (λ broken naming x same. broken naming x)) c.export_renamed.ensures.err)
+returns-in-Rename-clause-err g c = rw c.in-Rename.is (if_err _ _ c.export_renamed.result (λ e h. reports h (λ broken numbering x same. broken numbering x)) c.export_renamed.ensures.err)

@@ -1,4 +1,4 @@
-use Rattle.wac_resolution_statements.proofs.Common.{inl, inr, err_from_is_err_and, by_name, world_exports, Reports, told, reports, rules_of}
+use Rattle.wac_resolution_statements.proofs.Common.{inl, inr, err_from_is_err_and, by_name, world_exports, Reports, error_model, reports, rules_of}
 use Rattle.wac_resolution_statements.specs.Imported.{of_kind}
 use Rattle.wac_resolution_statements.specs.Outcome.{WorldMet, WorldUnmet}
 use Rattle.wac_resolution_statements.specs.Testing.{testing, AllMet, SomeUnmet}
@@ -21,4 +21,4 @@ returns-clause-ok g c =
 
 pub returns-clause-err : goal.returns-clause-err
 returns-clause-err g c =
-    as_err c.check_exports.result (λ e. Reports (told e) (SomeUnmet (testing c.args.state.now.graph (rules_of g.R.Rules c.args.rules.now) c.args.target.now) (by_name c.args.externs.now.exported.entries) (of_kind c.args.state.now.graph) (world_exports c.args.state.now.graph.types c.args.target.now.world.0) (told e))) (λ e. Reports (told e) (WorldUnmet (testing c.args.state.now.graph (rules_of g.R.Rules c.args.rules.now) c.args.target.now) (by_name c.args.externs.now.imported.entries) (by_name c.args.externs.now.exported.entries) (told e))) (λ e d. reports d (λ u. inr (inr (c.in_ok-check_imports.ensures.ok, c.in_ok-check_open_imports.ensures.ok, u)))) c.check_exports.ensures.err
+    as_err c.check_exports.result (λ e. Reports (error_model e) (SomeUnmet (testing c.args.state.now.graph (rules_of g.R.Rules c.args.rules.now) c.args.target.now) (by_name c.args.externs.now.exported.entries) (of_kind c.args.state.now.graph) (world_exports c.args.state.now.graph.types c.args.target.now.world.0) (error_model e))) (λ e. Reports (error_model e) (WorldUnmet (testing c.args.state.now.graph (rules_of g.R.Rules c.args.rules.now) c.args.target.now) (by_name c.args.externs.now.imported.entries) (by_name c.args.externs.now.exported.entries) (error_model e))) (λ e d. reports d (λ u. inr (inr (c.in_ok-check_imports.ensures.ok, c.in_ok-check_open_imports.ensures.ok, u)))) c.check_exports.ensures.err

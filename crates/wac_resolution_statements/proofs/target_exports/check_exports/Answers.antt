@@ -1,4 +1,4 @@
-use Rattle.wac_resolution_statements.proofs.Common.{◌∙◌, List, sym, ap, subst, Entry, ItemKind, by_name, world_exports, Named, ItemsNamed, world_exports_named, Reports, told, rules_of}
+use Rattle.wac_resolution_statements.proofs.Common.{◌∙◌, List, sym, ap, subst, Entry, ItemKind, by_name, world_exports, Named, ItemsNamed, world_exports_named, Reports, error_model, rules_of}
 use Rattle.std.proofs.Common.{OnOk, IfErr}
 use Rattle.wac_resolution_statements.specs.Imported.{of_kind}
 use Rattle.wac_resolution_statements.specs.Testing.{testing, AllMet, SomeUnmet}
@@ -14,7 +14,7 @@ returns-in-Some-clause-ok g c =
 
 pub returns-in-Some-clause-err : goal.returns-in-Some-clause-err
 returns-in-Some-clause-err g c =
-    subst (λ (l : Named ItemKind). IfErr c.check_each.result (λ e. Reports (told e) (SomeUnmet (testing c.args.state.now.graph (rules_of g.R.Rules c.args.rules.now) c.args.target.now) (by_name c.args.places.now.entries) (of_kind c.args.state.now.graph) l (told e)))) (c.in-Some.ensures ∙ ap (λ (es : List Entry). world_exports es c.args.target.now.world.0) c.types-types.ensures.types)
+    subst (λ (l : Named ItemKind). IfErr c.check_each.result (λ e. Reports (error_model e) (SomeUnmet (testing c.args.state.now.graph (rules_of g.R.Rules c.args.rules.now) c.args.target.now) (by_name c.args.places.now.entries) (of_kind c.args.state.now.graph) l (error_model e)))) (c.in-Some.ensures ∙ ap (λ (es : List Entry). world_exports es c.args.target.now.world.0) c.types-types.ensures.types)
     c.check_each.ensures.err
 
 pub returns-in-None-clause-ok : goal.returns-in-None-clause-ok

@@ -1,4 +1,4 @@
-use Rattle.wac_resolution_statements.proofs.Common.{◌<◌, List, ℕ, length, err_from_is_err_and, by_name, look_up, told, reports, rules_of}
+use Rattle.wac_resolution_statements.proofs.Common.{◌<◌, List, ℕ, length, err_from_is_err_and, by_name, look_up, error_model, reports, rules_of}
 use Rattle.wac_resolution_statements.specs.Imported.{of_node}
 use Rattle.wac_resolution_statements.specs.Testing.{testing, Allowed, Denied}
 use Rattle.wac_resolution_statements.proofs.Firsts.{through_next, through_all, fails_here, first_there, left_there}
@@ -12,8 +12,8 @@ pub returns-in_err-check_import-clause-err : goal.returns-in_err-check_import-cl
 returns-in_err-check_import-clause-err g c =
     let p = err_from_is_err_and c.from_residual.result c.from_residual.ensures.1 in
     rw (p.1, p.2) (reports c.in_err-check_import.ensures.err (λ err. fails_here (λ (x : List ℕ × ℕ). Allowed (testing c.args.state.now.graph (rules_of g.R.Rules c.args.rules.now) c.args.target.now) (of_node c.args.state.now.graph x)) (λ (x : List ℕ × ℕ) e. Denied (testing c.args.state.now.graph (rules_of g.R.Rules c.args.rules.now) c.args.target.now) (of_node c.args.state.now.graph x) (look_up x.0 (by_name c.args.places.now.entries)) e) c.args.state.now.graph.imports _ c.next.new.self
-    (c.in-Some.name.now, c.in-Some.node.0) (told c.in_err-check_import.field-0.0) c.in-Some.ensures.steps c.loop-name.invariant.through
-    (node_fails c.args.state.now.graph (rules_of g.R.Rules c.args.rules.now) c.args.target.now c.in-Some.name.now c.in-Some.node.0 c.kind-kind.result c.find-span.result (look_up c.in-Some.name.now (by_name c.args.places.now.entries)) (told c.in_err-check_import.field-0.0) c.kind-kind.ensures.kind c.find-span.ensures err)))
+    (c.in-Some.name.now, c.in-Some.node.0) (error_model c.in_err-check_import.field-0.0) c.in-Some.ensures.steps c.loop-name.invariant.through
+    (node_fails c.args.state.now.graph (rules_of g.R.Rules c.args.rules.now) c.args.target.now c.in-Some.name.now c.in-Some.node.0 c.kind-kind.result c.find-span.result (look_up c.in-Some.name.now (by_name c.args.places.now.entries)) (error_model c.in_err-check_import.field-0.0) c.kind-kind.ensures.kind c.find-span.ensures err)))
 
 pub loop-name-preserved : goal.loop-name-preserved
 loop-name-preserved g c = record {

@@ -5,7 +5,7 @@ use Rattle.wac_resolution_types.proofs.aliases.alias_of_name.Goals as goal
 pub returns-in_err-kind-clause-err : goal.returns-in_err-kind-clause-err
 returns-in_err-kind-clause-err c =
     let p = err_from_is_err_and c.from_residual.result c.from_residual.ensures.1 in
-    rw (p.1, p.2) (reports c.in_err-kind.ensures.err (λ err naming. inl (err naming c.args.state.now.graph)))
+    rw (p.1, p.2) (reports c.in_err-kind.ensures.err (λ err numbering. inl (err numbering c.args.state.now.graph)))
 
 pub returns-in-Some-clause-ok : goal.returns-in-Some-clause-ok
 returns-in-Some-clause-ok c =

@@ -1,4 +1,4 @@
-use Rattle.wac_resolution_types.proofs.Common.{map, [], ◌≡◌, rules, err_from_is_err_and, by_name, named_type_of, told, values_of, reports}
+use Rattle.wac_resolution_types.proofs.Common.{map, [], ◌≡◌, rules, err_from_is_err_and, by_name, named_type_of, error_model, values_of, reports}
 use Rattle.wac_graph_types.specs.declared.kind.ItemKind.TheVariants as kinds
 use Rattle.wac_graph_types.specs.declared.kind.«Type».TheVariants as types
 use Rattle.wac_graph_types.specs.declared.kind.ValueType.TheVariants as values
@@ -11,7 +11,7 @@ pub returns-in_err-take_params-clause-err : goal.returns-in_err-take_params-clau
 returns-in_err-take_params-clause-err c =
     let p = err_from_is_err_and c.from_residual.result c.from_residual.ensures.1 in
     let empty : c.new-all.result.entries ≡ [] = search rules in
-    rw (p.1, p.2) (reports c.in_err-take_params.ensures.err (constructor_breaks c.args.state.now.graph (values_of c.args.names.now) (by_name c.new-all.result.entries) (map named_type_of c.args.params.now) (told c.in_err-take_params.field-0.0)
+    rw (p.1, p.2) (reports c.in_err-take_params.ensures.err (constructor_breaks c.args.state.now.graph (values_of c.args.names.now) (by_name c.new-all.result.entries) (map named_type_of c.args.params.now) (error_model c.in_err-take_params.field-0.0)
     (none_named c.new-all.result.entries empty)))
 
 pub add_func-requires : goal.add_func-requires

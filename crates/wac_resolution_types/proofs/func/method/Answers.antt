@@ -1,4 +1,4 @@
-use Rattle.wac_resolution_types.proofs.Common.{IfOk-weaker, MatchResult-weaker, by_name, func_type_of, told, values_of, reports}
+use Rattle.wac_resolution_types.proofs.Common.{IfOk-weaker, MatchResult-weaker, by_name, func_type_of, error_model, values_of, reports}
 use Rattle.wac_resolution_types.proofs.FuncParts.{first_named, method_is, method_breaks}
 use Rattle.wac_resolution_types.proofs.func.method.Goals as goal
 
@@ -11,4 +11,4 @@ returns-clause-ok c =
 
 pub returns-clause-err : goal.returns-clause-err
 returns-clause-err c =
-    MatchResult-weaker c.function.result c.function.ensures.err (λ f h. h) (λ e h. reports h (method_breaks c.kind_of_method.result c.args.state.now.graph (values_of c.args.names.now) c.args.is_static c.args.resource (by_name c.in_ok-first.first.entries) (func_type_of c.args.func.now) (told e) c.kind_of_method.ensures c.in_ok-first.ensures))
+    MatchResult-weaker c.function.result c.function.ensures.err (λ f h. h) (λ e h. reports h (method_breaks c.kind_of_method.result c.args.state.now.graph (values_of c.args.names.now) c.args.is_static c.args.resource (by_name c.in_ok-first.first.entries) (func_type_of c.args.func.now) (error_model e) c.kind_of_method.ensures c.in_ok-first.ensures))

@@ -1,4 +1,4 @@
-use Rattle.wac_resolution_types.proofs.Common.{map, take, arith, err_from_is_err_and, take_all, length-map, by_name, field_of, ident_of, told, HasField, FieldBroken, values_of, reports, still_named}
+use Rattle.wac_resolution_types.proofs.Common.{map, take, arith, err_from_is_err_and, take_all, length-map, by_name, field_of, ident_of, error_model, HasField, FieldBroken, values_of, reports, still_named}
 use Rattle.wac_resolution_types.specs.Funcs.{given}
 use Rattle.wac_resolution_types.proofs.NamedParts.{no_parts, parts_step, parts_all, parts_break}
 use Rattle.wac_resolution_types.proofs.records.take_fields.Goals as goal
@@ -15,7 +15,7 @@ take_field-requires-clause-parts c = c.loop-field.invariant.named
 pub returns-in_err-take_field-clause-err : goal.returns-in_err-take_field-clause-err
 returns-in_err-take_field-clause-err c =
     let p = err_from_is_err_and c.from_residual.result c.from_residual.ensures.1 in
-    rw (p.1, p.2) (reports c.in_err-take_field.ensures.err (parts_break given HasField (λ s. FieldBroken s (ident_of c.args.declared.now) (told c.in_err-take_field.field-0.0)) field_of c.args.state.now.graph c.loop-field.state.graph (values_of c.args.names.now) (by_name c.args.all.now.entries) (by_name c.loop-field.all.entries) c.args.fields.now c.loop-field.field-index c.field-item.result
+    rw (p.1, p.2) (reports c.in_err-take_field.ensures.err (parts_break given HasField (λ s. FieldBroken s (ident_of c.args.declared.now) (error_model c.in_err-take_field.field-0.0)) field_of c.args.state.now.graph c.loop-field.state.graph (values_of c.args.names.now) (by_name c.args.all.now.entries) (by_name c.loop-field.all.entries) c.args.fields.now c.loop-field.field-index c.field-item.result
     c.loop-field-test.true c.field-item.is c.requires.scope c.loop-field.invariant))
 
 pub loop-field-preserved : goal.loop-field-preserved

@@ -7,12 +7,12 @@ use Rattle.wac_resolution_types.proofs.results.named_result.Goals as goal
 pub returns-in_err-value-clause-err : goal.returns-in_err-value-clause-err
 returns-in_err-value-clause-err c =
     let p = err_from_is_err_and c.from_residual.result c.from_residual.ensures.1 in
-    rw (p.1, p.2) (reports c.in_err-value.ensures.err (λ err naming before. inl (err naming)))
+    rw (p.1, p.2) (reports c.in_err-value.ensures.err (λ err numbering before. inl (err numbering)))
 
 pub returns-in_err-check_result_name-clause-err : goal.returns-in_err-check_result_name-clause-err
 returns-in_err-check_result_name-clause-err c =
     let p = err_from_is_err_and c.from_residual-in_err-check_result_name.result c.from_residual-in_err-check_result_name.ensures.1 in
-    rw (p.1, p.2) (reports c.in_err-check_result_name.ensures.err (λ err naming before. inr (means naming c.result_type.new.state.graph (kinds.Value c.in_ok-value.value), c.in_ok-value.ensures.ok.is naming, err naming c.args.state.now.graph)))
+    rw (p.1, p.2) (reports c.in_err-check_result_name.ensures.err (λ err numbering before. inr (means numbering c.result_type.new.state.graph (kinds.Value c.in_ok-value.value), c.in_ok-value.ensures.ok.is numbering, err numbering c.args.state.now.graph)))
 
 pub returns-clause-ok : goal.returns-clause-ok
 returns-clause-ok c =

@@ -1,4 +1,4 @@
-use Rattle.wac_resolution_types.proofs.Common.{◌≡◌, [], sym, subst, map, take, arith, rules, err_from_is_err_and, take_all, length-map, by_name, Named, ValueType, named_type_of, told, HasResult, ResultBroken, values_of, reports, still_named}
+use Rattle.wac_resolution_types.proofs.Common.{◌≡◌, [], sym, subst, map, take, arith, rules, err_from_is_err_and, take_all, length-map, by_name, Named, ValueType, named_type_of, error_model, HasResult, ResultBroken, values_of, reports, still_named}
 use Rattle.wac_resolution_types.specs.Funcs.{given, ResultSteps}
 use Rattle.wac_resolution_types.proofs.NamedParts.{no_parts, parts_step, parts_all, parts_break}
 use Rattle.wac_resolution_types.proofs.DeclarationParts.{none_named}
@@ -19,7 +19,7 @@ named_result-requires-clause-parts c = c.loop-result.invariant.named
 pub returns-in_err-named_result-clause-err : goal.returns-in_err-named_result-clause-err
 returns-in_err-named_result-clause-err c =
     let p = err_from_is_err_and c.from_residual.result c.from_residual.ensures.1 in
-    rw (p.1, p.2) (reports c.in_err-named_result.ensures.err (parts_break given HasResult (λ s. ResultBroken c.args.kind s (told c.in_err-named_result.field-0.0)) named_type_of c.args.state.now.graph c.loop-result.state.graph (values_of c.args.names.now) [] (by_name c.loop-result.all.entries) c.args.named.now c.loop-result.result-index c.result-item.result
+    rw (p.1, p.2) (reports c.in_err-named_result.ensures.err (parts_break given HasResult (λ s. ResultBroken c.args.kind s (error_model c.in_err-named_result.field-0.0)) named_type_of c.args.state.now.graph c.loop-result.state.graph (values_of c.args.names.now) [] (by_name c.loop-result.all.entries) c.args.named.now c.loop-result.result-index c.result-item.result
     c.loop-result-test.true c.result-item.is c.requires c.loop-result.invariant))
 
 pub loop-result-preserved : goal.loop-result-preserved

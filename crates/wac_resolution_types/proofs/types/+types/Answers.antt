@@ -1,4 +1,4 @@
-use Rattle.wac_resolution_types.proofs.Common.{◌≡◌, List, map, take, sym, ap, subst, arith, inl, err_from_is_err_and, take_all, Ty, Types, types_from, ValueType, ident_of, ty_of, TypeBroken, told, scope_of, values_of, reports, memory_told, still_named, child_named}
+use Rattle.wac_resolution_types.proofs.Common.{◌≡◌, List, map, take, sym, ap, subst, arith, inl, err_from_is_err_and, take_all, Ty, Types, types_from, ValueType, ident_of, ty_of, TypeBroken, error_model, scope_of, values_of, reports, memory_model, still_named, child_named}
 use Rattle.wac_graph_types.specs.declared.kind.ValueType.TheVariants as values
 use Rattle.wac_ast_types.specs.declared.types.«Type».{«Type», size-Type}
 use Rattle.wac_ast_types.specs.declared.types.«Type».TheViews.{sized-Result}
@@ -12,7 +12,7 @@ use Rattle.wac_resolution_types.proofs.types.+types.Goals as goal
 pub value_type-returns-in_err-values-in-Tuple-clause-err : goal.value_type-returns-in_err-values-in-Tuple-clause-err
 value_type-returns-in_err-values-in-Tuple-clause-err t c =
     let p = err_from_is_err_and c.from_residual.result c.from_residual.ensures.1 in
-    rw (p.1, p.2) (reports c.in_err-values-in-Tuple.ensures.err (tuple_breaks c.args.state.now.graph (values_of c.args.names.now) c.args.ty.now c.in-Tuple.types c.in-Tuple.field-1 c.deref.result.now (told c.in_err-values-in-Tuple.field-0.0) c.in-Tuple.is c.deref.ensures.value))
+    rw (p.1, p.2) (reports c.in_err-values-in-Tuple.ensures.err (tuple_breaks c.args.state.now.graph (values_of c.args.names.now) c.args.ty.now c.in-Tuple.types c.in-Tuple.field-1 c.deref.result.now (error_model c.in_err-values-in-Tuple.field-0.0) c.in-Tuple.is c.deref.ensures.value))
 
 pub value_type-returns-in_ok-add_defined-in-Tuple-clause-ok : goal.value_type-returns-in_ok-add_defined-in-Tuple-clause-ok
 value_type-returns-in_ok-add_defined-in-Tuple-clause-ok t c =
@@ -24,7 +24,7 @@ value_type-returns-in_ok-add_defined-in-Tuple-clause-ok t c =
 pub value_type-returns-in_err-ok-in-Result-clause-err : goal.value_type-returns-in_err-ok-in-Result-clause-err
 value_type-returns-in_err-ok-in-Result-clause-err t c =
     let p = err_from_is_err_and c.from_residual-in_err-ok-in-Result.result c.from_residual-in_err-ok-in-Result.ensures.1 in
-    rw (p.1, p.2) (reports c.in_err-ok-in-Result.ensures.err (λ err. result_breaks c.args.state.now.graph (values_of c.args.names.now) c.args.ty.now c.in-Result.ok c.in-Result.err c.in-Result.span (told c.in_err-ok-in-Result.field-0.0) c.in-Result.is err))
+    rw (p.1, p.2) (reports c.in_err-ok-in-Result.ensures.err (λ err. result_breaks c.args.state.now.graph (values_of c.args.names.now) c.args.ty.now c.in-Result.ok c.in-Result.err c.in-Result.span (error_model c.in_err-ok-in-Result.field-0.0) c.in-Result.is err))
 
 pub value_type-optional-requires-in-Result : goal.value_type-optional-requires-in-Result
 value_type-optional-requires-in-Result t c =
@@ -33,7 +33,7 @@ value_type-optional-requires-in-Result t c =
 pub value_type-returns-in_err-err-in-Result-clause-err : goal.value_type-returns-in_err-err-in-Result-clause-err
 value_type-returns-in_err-err-in-Result-clause-err t c =
     let p = err_from_is_err_and c.from_residual-in_err-err-in-Result.result c.from_residual-in_err-err-in-Result.ensures.1 in
-    rw (p.1, p.2) (reports c.in_err-err-in-Result.ensures.err (λ err. result_breaks_later c.args.state.now.graph c.optional.new.state.graph (values_of c.args.names.now) c.args.ty.now c.in-Result.ok c.in-Result.err c.in-Result.span c.in_ok-ok-in-Result.ok (told c.in_err-err-in-Result.field-0.0)
+    rw (p.1, p.2) (reports c.in_err-err-in-Result.ensures.err (λ err. result_breaks_later c.args.state.now.graph c.optional.new.state.graph (values_of c.args.names.now) c.args.ty.now c.in-Result.ok c.in-Result.err c.in-Result.span c.in_ok-ok-in-Result.ok (error_model c.in_err-err-in-Result.field-0.0)
     c.in-Result.is c.requires c.in_ok-ok-in-Result.ensures.ok err))
 
 pub value_type-add_defined-requires-in-Result : goal.value_type-add_defined-requires-in-Result
@@ -50,20 +50,20 @@ value_type-returns-in_ok-add_defined-in-Result-clause-ok t c =
 pub value_type-returns-in_err-value-in-Stream-clause-err : goal.value_type-returns-in_err-value-in-Stream-clause-err
 value_type-returns-in_err-value-in-Stream-clause-err t c =
     let p = err_from_is_err_and c.from_residual-in_err-value-in-Stream.result c.from_residual-in_err-value-in-Stream.ensures.1 in
-    rw (p.1, p.2) (reports c.in_err-value-in-Stream.ensures.err (stream_breaks c.args.state.now.graph (values_of c.args.names.now) c.args.ty.now c.in-Stream.inner c.in-Stream.field-1 (told c.in_err-value-in-Stream.field-0.0) c.in-Stream.is))
+    rw (p.1, p.2) (reports c.in_err-value-in-Stream.ensures.err (stream_breaks c.args.state.now.graph (values_of c.args.names.now) c.args.ty.now c.in-Stream.inner c.in-Stream.field-1 (error_model c.in_err-value-in-Stream.field-0.0) c.in-Stream.is))
 
 pub value_type-returns-in_err-value-in-Future-clause-err : goal.value_type-returns-in_err-value-in-Future-clause-err
 value_type-returns-in_err-value-in-Future-clause-err t c =
     let p = err_from_is_err_and c.from_residual-in_err-value-in-Future.result c.from_residual-in_err-value-in-Future.ensures.1 in
-    rw (p.1, p.2) (reports c.in_err-value-in-Future.ensures.err (future_breaks c.args.state.now.graph (values_of c.args.names.now) c.args.ty.now c.in-Future.inner c.in-Future.field-1 (told c.in_err-value-in-Future.field-0.0) c.in-Future.is))
+    rw (p.1, p.2) (reports c.in_err-value-in-Future.ensures.err (future_breaks c.args.state.now.graph (values_of c.args.names.now) c.args.ty.now c.in-Future.inner c.in-Future.field-1 (error_model c.in_err-value-in-Future.field-0.0) c.in-Future.is))
 
 -- ---- borrows
 
 pub value_type-returns-in_err-named_resource-in-Borrow-clause-err : goal.value_type-returns-in_err-named_resource-in-Borrow-clause-err
 value_type-returns-in_err-named_resource-in-Borrow-clause-err t c =
     let p = err_from_is_err_and c.from_residual-in_err-named_resource-in-Borrow.result c.from_residual-in_err-named_resource-in-Borrow.ensures.1 in
-    rw (p.1, p.2) (reports c.in_err-named_resource-in-Borrow.ensures.err (λ err naming. subst (λ (x : «Type»). TypeBroken (scope_of naming c.args.state.now.graph (values_of c.args.names.now)) (ty_of x) (told c.in_err-named_resource-in-Borrow.field-0.0)) (sym c.in-Borrow.is)
-    (err naming c.args.state.now.graph c.in-Borrow.field-1)))
+    rw (p.1, p.2) (reports c.in_err-named_resource-in-Borrow.ensures.err (λ err numbering. subst (λ (x : «Type»). TypeBroken (scope_of numbering c.args.state.now.graph (values_of c.args.names.now)) (ty_of x) (error_model c.in_err-named_resource-in-Borrow.field-0.0)) (sym c.in-Borrow.is)
+    (err numbering c.args.state.now.graph c.in-Borrow.field-1)))
 
 pub value_type-returns-in_ok-named_resource-in-Borrow-clause-ok : goal.value_type-returns-in_ok-named_resource-in-Borrow-clause-ok
 value_type-returns-in_ok-named_resource-in-Borrow-clause-ok t c =
@@ -83,13 +83,13 @@ value_types-value_type-requires t c = (omega (arith, c.decreases, most_at size-T
 pub value_types-returns-in_err-value-clause-err : goal.value_types-returns-in_err-value-clause-err
 value_types-returns-in_err-value-clause-err t c =
     let p = err_from_is_err_and c.from_residual.result c.from_residual.ensures.1 in
-    rw (p.1, p.2) (reports c.in_err-value.ensures.err (types_break c.args.state.now.graph c.loop-ty.state.graph (values_of c.args.names.now) c.args.types.now c.loop-ty.ty-index c.ty-item.result c.loop-ty.values.items (told c.in_err-value.field-0.0)
+    rw (p.1, p.2) (reports c.in_err-value.ensures.err (types_break c.args.state.now.graph c.loop-ty.state.graph (values_of c.args.names.now) c.args.types.now c.loop-ty.ty-index c.ty-item.result c.loop-ty.values.items (error_model c.in_err-value.field-0.0)
     c.loop-ty-test.true c.ty-item.is c.requires c.loop-ty.invariant))
 
 pub value_types-returns-in_err-push-clause-err : goal.value_types-returns-in_err-push-clause-err
 value_types-returns-in_err-push-clause-err t c =
     let p = err_from_is_err_and c.from_residual-in_err-push.result c.from_residual-in_err-push.ensures.1 in
-    rw p.1 (inl (memory_told p.0 p.2))
+    rw p.1 (inl (memory_model p.0 p.2))
 
 pub value_types-loop-ty-preserved : goal.value_types-loop-ty-preserved
 value_types-loop-ty-preserved t c =

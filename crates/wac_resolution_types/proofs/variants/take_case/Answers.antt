@@ -6,7 +6,7 @@ use Rattle.wac_resolution_types.proofs.variants.take_case.Goals as goal
 pub returns-in_err-check_case-clause-err : goal.returns-in_err-check_case-clause-err
 returns-in_err-check_case-clause-err c =
     let p = err_from_is_err_and c.from_residual-in_err-check_case.result c.from_residual-in_err-check_case.ensures.1 in
-    rw (p.1, p.2) (reports c.in_err-check_case.ensures.err (λ err naming before. inr (optional_means (entry_means naming c.case_type.new.state.graph) c.in_ok-value.value, c.in_ok-value.ensures.ok.is naming, err naming c.args.state.now.graph)))
+    rw (p.1, p.2) (reports c.in_err-check_case.ensures.err (λ err numbering before. inr (optional_means (entry_means numbering c.case_type.new.state.graph) c.in_ok-value.value, c.in_ok-value.ensures.ok.is numbering, err numbering c.args.state.now.graph)))
 
 pub returns-clause-ok : goal.returns-clause-ok
 returns-clause-ok c =
@@ -16,4 +16,4 @@ returns-clause-ok c =
 pub returns-in_err-value-clause-err : goal.returns-in_err-value-clause-err
 returns-in_err-value-clause-err c =
     let p = err_from_is_err_and c.from_residual.result c.from_residual.ensures.1 in
-    rw (p.1, p.2) (reports c.in_err-value.ensures.err (λ err naming before. inl (err naming)))
+    rw (p.1, p.2) (reports c.in_err-value.ensures.err (λ err numbering before. inl (err numbering)))

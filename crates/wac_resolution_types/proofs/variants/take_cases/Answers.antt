@@ -1,4 +1,4 @@
-use Rattle.wac_resolution_types.proofs.Common.{map, take, arith, err_from_is_err_and, take_all, length-map, by_name, variant_case_of, ident_of, told, HasCase, CaseBroken, values_of, reports, still_named}
+use Rattle.wac_resolution_types.proofs.Common.{map, take, arith, err_from_is_err_and, take_all, length-map, by_name, variant_case_of, ident_of, error_model, HasCase, CaseBroken, values_of, reports, still_named}
 use Rattle.wac_resolution_types.specs.Declarations.{perhaps}
 use Rattle.wac_resolution_types.proofs.NamedParts.{no_parts, parts_step, parts_all, parts_break}
 use Rattle.wac_resolution_types.proofs.variants.take_cases.Goals as goal
@@ -15,7 +15,7 @@ take_case-requires-clause-parts c = c.loop-case.invariant.named
 pub returns-in_err-take_case-clause-err : goal.returns-in_err-take_case-clause-err
 returns-in_err-take_case-clause-err c =
     let p = err_from_is_err_and c.from_residual.result c.from_residual.ensures.1 in
-    rw (p.1, p.2) (reports c.in_err-take_case.ensures.err (parts_break perhaps HasCase (λ s. CaseBroken s (ident_of c.args.declared.now) (told c.in_err-take_case.field-0.0)) variant_case_of c.args.state.now.graph c.loop-case.state.graph (values_of c.args.names.now) (by_name c.args.all.now.entries) (by_name c.loop-case.all.entries) c.args.cases.now c.loop-case.case-index c.case-item.result
+    rw (p.1, p.2) (reports c.in_err-take_case.ensures.err (parts_break perhaps HasCase (λ s. CaseBroken s (ident_of c.args.declared.now) (error_model c.in_err-take_case.field-0.0)) variant_case_of c.args.state.now.graph c.loop-case.state.graph (values_of c.args.names.now) (by_name c.args.all.now.entries) (by_name c.loop-case.all.entries) c.args.cases.now c.loop-case.case-index c.case-item.result
     c.loop-case-test.true c.case-item.is c.requires.scope c.loop-case.invariant))
 
 pub loop-case-preserved : goal.loop-case-preserved

@@ -1,4 +1,4 @@
-use Rattle.wac_resolution_worlds.proofs.Common.{List, None, ap, map, subst, err_from_is_err_and, ExternType, ident_of, func_type_of, interface_item_of, inline_interface_of, extern_type_of, declared_count, Naming, told, InterfaceBroken, values_of, scope_of, context_of, reports}
+use Rattle.wac_resolution_worlds.proofs.Common.{List, None, ap, map, subst, err_from_is_err_and, ExternType, ident_of, func_type_of, interface_item_of, inline_interface_of, extern_type_of, declared_count, Numbering, error_model, InterfaceBroken, values_of, scope_of, context_of, reports}
 use Rattle.wac_ast_worlds.specs.declared.interface.InterfaceItem.{InterfaceItem}
 use Rattle.wac_resolution_worlds.specs.Made.{InterfaceMade}
 use Rattle.wac_resolution_worlds.proofs.WorldItems.{named_made, func_made, inline_made, extern_breaks}
@@ -7,8 +7,8 @@ use Rattle.wac_resolution_worlds.proofs.extern_items.extern_type.Goals as goal
 pub returns-in_err-named_extern-in-Ident-clause-err : goal.returns-in_err-named_extern-in-Ident-clause-err
 returns-in_err-named_extern-in-Ident-clause-err c =
     let p = err_from_is_err_and c.from_residual.result c.from_residual.ensures.1 in
-    rw (p.1, p.2) (reports c.in_err-named_extern-in-Ident.ensures.err (λ err. extern_breaks c.args.outer.now.context.now c.args.state.now.graph (values_of c.args.outer.now.root.now) (values_of c.args.names.now) c.args.ty.now (ExternType.ident (ident_of c.in-Ident.id)) (told c.in_err-named_extern-in-Ident.field-0.0) (ap extern_type_of c.in-Ident.is)
-    (λ naming. err naming c.args.state.now.graph (context_of naming c.args.outer.now.context.now) (declared_count c.args.state.now.graph))))
+    rw (p.1, p.2) (reports c.in_err-named_extern-in-Ident.ensures.err (λ err. extern_breaks c.args.outer.now.context.now c.args.state.now.graph (values_of c.args.outer.now.root.now) (values_of c.args.names.now) c.args.ty.now (ExternType.ident (ident_of c.in-Ident.id)) (error_model c.in_err-named_extern-in-Ident.field-0.0) (ap extern_type_of c.in-Ident.is)
+    (λ numbering. err numbering c.args.state.now.graph (context_of numbering c.args.outer.now.context.now) (declared_count c.args.state.now.graph))))
 
 pub returns-in_ok-named_extern-in-Ident-clause-ok : goal.returns-in_ok-named_extern-in-Ident-clause-ok
 returns-in_ok-named_extern-in-Ident-clause-ok c =
@@ -18,7 +18,7 @@ returns-in_ok-named_extern-in-Ident-clause-ok c =
 pub returns-in_err-new_func-in-Func-clause-err : goal.returns-in_err-new_func-in-Func-clause-err
 returns-in_err-new_func-in-Func-clause-err c =
     let p = err_from_is_err_and c.from_residual-in_err-new_func-in-Func.result c.from_residual-in_err-new_func-in-Func.ensures.1 in
-    rw (p.1, p.2) (reports c.in_err-new_func-in-Func.ensures.err (extern_breaks c.args.outer.now.context.now c.args.state.now.graph (values_of c.args.outer.now.root.now) (values_of c.args.names.now) c.args.ty.now (ExternType.func (func_type_of c.in-Func.func)) (told c.in_err-new_func-in-Func.field-0.0) (ap extern_type_of c.in-Func.is)
+    rw (p.1, p.2) (reports c.in_err-new_func-in-Func.ensures.err (extern_breaks c.args.outer.now.context.now c.args.state.now.graph (values_of c.args.outer.now.root.now) (values_of c.args.names.now) c.args.ty.now (ExternType.func (func_type_of c.in-Func.func)) (error_model c.in_err-new_func-in-Func.field-0.0) (ap extern_type_of c.in-Func.is)
     ))
 
 pub returns-in_ok-new_func-in-Func-clause-ok : goal.returns-in_ok-new_func-in-Func-clause-ok
@@ -31,8 +31,8 @@ returns-in_err-interface-in-Interface-clause-err c =
     let p = err_from_is_err_and c.from_residual-in_err-interface-in-Interface.result c.from_residual-in_err-interface-in-Interface.ensures.1 in
     let g = c.args.state.now.graph in
     rw (p.1, p.2) (reports c.in_err-interface-in-Interface.ensures.err (λ err.
-    let h = subst (λ (l : List InterfaceItem). (naming : Naming) → InterfaceBroken (context_of naming c.args.outer.now.context.now) (scope_of naming g (values_of c.args.outer.now.root.now)) None (declared_count g) (map interface_item_of l) (told c.in_err-interface-in-Interface.field-0.0)) c.deref.ensures.value err in
-    extern_breaks c.args.outer.now.context.now g (values_of c.args.outer.now.root.now) (values_of c.args.names.now) c.args.ty.now (ExternType.interface (inline_interface_of c.in-Interface.inline)) (told c.in_err-interface-in-Interface.field-0.0) (ap extern_type_of c.in-Interface.is) h))
+    let h = subst (λ (l : List InterfaceItem). (numbering : Numbering) → InterfaceBroken (context_of numbering c.args.outer.now.context.now) (scope_of numbering g (values_of c.args.outer.now.root.now)) None (declared_count g) (map interface_item_of l) (error_model c.in_err-interface-in-Interface.field-0.0)) c.deref.ensures.value err in
+    extern_breaks c.args.outer.now.context.now g (values_of c.args.outer.now.root.now) (values_of c.args.names.now) c.args.ty.now (ExternType.interface (inline_interface_of c.in-Interface.inline)) (error_model c.in_err-interface-in-Interface.field-0.0) (ap extern_type_of c.in-Interface.is) h))
 
 pub returns-in_ok-interface-in-Interface-clause-ok : goal.returns-in_ok-interface-in-Interface-clause-ok
 returns-in_ok-interface-in-Interface-clause-ok c =

@@ -5,7 +5,7 @@ use Rattle.wac_resolution_worlds.proofs.includes.include_item.Goals as goal
 pub returns-in_err-include-in-Some-clause-err : goal.returns-in_err-include-in-Some-clause-err
 returns-in_err-include-in-Some-clause-err c =
     let p = err_from_is_err_and c.from_residual.result c.from_residual.ensures.1 in
-    rw (p.1, p.2) (reports c.in_err-include-in-Some.ensures.err (λ err naming before. (world_include_of c.in-Some.clause.now, sym c.in-Some.ensures, err naming before)))
+    rw (p.1, p.2) (reports c.in_err-include-in-Some.ensures.err (λ err numbering before. (world_include_of c.in-Some.clause.now, sym c.in-Some.ensures, err numbering before)))
 
 pub returns-in_ok-include-in-Some-clause-ok : goal.returns-in_ok-include-in-Some-clause-ok
 returns-in_ok-include-in-Some-clause-ok c =

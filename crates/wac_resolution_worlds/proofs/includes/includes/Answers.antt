@@ -1,4 +1,4 @@
-use Rattle.wac_resolution_worlds.proofs.Common.{List, map, ap, subst, arith, err_from_is_err_and, take_all, length-map, WorldInclude, world_item_of, told, includes_of, values_of, reports, items_expanded, lists_of}
+use Rattle.wac_resolution_worlds.proofs.Common.{List, map, ap, subst, arith, err_from_is_err_and, take_all, length-map, WorldInclude, world_item_of, error_model, includes_of, values_of, reports, items_expanded, lists_of}
 use Rattle.wac_resolution_worlds.specs.WorldItems.{IncludeSteps}
 use Rattle.wac_resolution_worlds.proofs.Including.{none_include, includes_step, includes_break}
 use Rattle.wac_resolution_worlds.proofs.includes.includes.Goals as goal
@@ -18,7 +18,7 @@ include_item-requires-clause-supplied c = c.loop-item.invariant.supplied
 pub returns-in_err-include_item-clause-err : goal.returns-in_err-include_item-clause-err
 returns-in_err-include_item-clause-err c =
     let p = err_from_is_err_and c.from_residual.result c.from_residual.ensures.1 in
-    rw (p.1, p.2) (reports c.in_err-include_item.ensures.err (includes_break world_item_of c.args.outer.now.context.now c.args.state.now.graph c.loop-item.state.graph (values_of c.args.outer.now.root.now) c.args.world.now (lists_of c.args.body.now) (lists_of c.loop-item.body) c.args.items.now c.loop-item.item-index c.item-item.result (told c.in_err-include_item.field-0.0)
+    rw (p.1, p.2) (reports c.in_err-include_item.ensures.err (includes_break world_item_of c.args.outer.now.context.now c.args.state.now.graph c.loop-item.state.graph (values_of c.args.outer.now.root.now) c.args.world.now (lists_of c.args.body.now) (lists_of c.loop-item.body) c.args.items.now c.loop-item.item-index c.item-item.result (error_model c.in_err-include_item.field-0.0)
     c.loop-item-test.true c.item-item.is c.requires.root c.loop-item.invariant))
 
 pub loop-item-preserved : goal.loop-item-preserved

@@ -1,4 +1,4 @@
-use Rattle.wac_resolution_worlds.proofs.Common.{ap, subst, IfErr, OnOk, item_type_decl_of, interface_export_of, interface_item_of, use_of, Naming, Reports, told, UseBroken, values_of, scope_of, context_of, body_of, lists_of, owner_of, if_reports}
+use Rattle.wac_resolution_worlds.proofs.Common.{ap, subst, IfErr, OnOk, item_type_decl_of, interface_export_of, interface_item_of, use_of, Numbering, Reports, error_model, UseBroken, values_of, scope_of, context_of, body_of, lists_of, owner_of, if_reports}
 use Rattle.wac_graph_types.specs.declared.kind.ExternKind.TheVariants as sides
 use Rattle.wac_ast_uses.specs.declared.uses.Use.{Use}
 use Rattle.wac_resolution_worlds.specs.UseStatements.{UseStatementStep}
@@ -12,7 +12,7 @@ returns-in-Use-clause-ok c =
 
 pub returns-in-Use-clause-err : goal.returns-in-Use-clause-err
 returns-in-Use-clause-err c =
-    let h = subst (λ (u : Use). IfErr c.use_statement.result (λ e. Reports (told e) ((naming : Naming) → UseBroken (context_of naming c.args.outer.now.context.now) (scope_of naming c.args.state.now.graph (values_of c.args.outer.now.root.now)) sides.Export (body_of naming c.args.state.now.graph c.args.body.now) (use_of u) (told e)))) c.deref.ensures c.use_statement.ensures.err in
+    let h = subst (λ (u : Use). IfErr c.use_statement.result (λ e. Reports (error_model e) ((numbering : Numbering) → UseBroken (context_of numbering c.args.outer.now.context.now) (scope_of numbering c.args.state.now.graph (values_of c.args.outer.now.root.now)) sides.Export (body_of numbering c.args.state.now.graph c.args.body.now) (use_of u) (error_model e)))) c.deref.ensures c.use_statement.ensures.err in
     if_reports _ _
     (λ r. use_breaks c.args.outer.now.context.now c.args.state.now.graph (values_of c.args.outer.now.root.now) (owner_of c.args.owner.now) (lists_of c.args.body.now) c.args.item.now (use_of c.in-Use.used.value) r (ap interface_item_of c.in-Use.is))
     c.use_statement.result h

@@ -1,16 +1,16 @@
-use Rattle.wac_resolution_worlds.proofs.Common.{inr, refl, err_from_is_err_and, ident_of, use_item_of, means, told, lists_of, body_of, reports}
+use Rattle.wac_resolution_worlds.proofs.Common.{inr, refl, err_from_is_err_and, ident_of, use_item_of, means, error_model, lists_of, body_of, reports}
 use Rattle.wac_resolution_worlds.proofs.UsedItems.{kind_breaks, use_unused, use_bound, use_fresh, use_goes}
 use Rattle.wac_resolution_worlds.proofs.used_items.use_item.Goals as goal
 
 pub returns-in_err-kind-clause-err : goal.returns-in_err-kind-clause-err
 returns-in_err-kind-clause-err c =
     let p = err_from_is_err_and c.from_residual.result c.from_residual.ensures.1 in
-    rw (p.1, p.2) (reports c.in_err-kind.ensures.err (λ err naming before. kind_breaks c.args.side c.args.state.now.graph c.args.used.now.interface c.args.used.now.path.now (told c.in_err-kind.field-0.0) (body_of naming c.args.state.now.graph c.args.body.now) before (use_item_of c.args.item.now) naming (err naming)))
+    rw (p.1, p.2) (reports c.in_err-kind.ensures.err (λ err numbering before. kind_breaks c.args.side c.args.state.now.graph c.args.used.now.interface c.args.used.now.path.now (error_model c.in_err-kind.field-0.0) (body_of numbering c.args.state.now.graph c.args.body.now) before (use_item_of c.args.item.now) numbering (err numbering)))
 
 pub returns-in_err-check_use-clause-err : goal.returns-in_err-check_use-clause-err
 returns-in_err-check_use-clause-err c =
     let p = err_from_is_err_and c.from_residual-in_err-check_use.result c.from_residual-in_err-check_use.ensures.1 in
-    rw (p.1, p.2) (reports c.in_err-check_use.ensures.err (λ err naming before. inr (inr ((means naming c.args.state.now.graph c.in_ok-kind.kind, c.in_ok-kind.ensures.ok.there.is naming, c.in_ok-kind.ensures.ok.usable naming), err naming c.args.state.now.graph))))
+    rw (p.1, p.2) (reports c.in_err-check_use.ensures.err (λ err numbering before. inr (inr ((means numbering c.args.state.now.graph c.in_ok-kind.kind, c.in_ok-kind.ensures.ok.there.is numbering, c.in_ok-kind.ensures.ok.usable numbering), err numbering c.args.state.now.graph))))
 
 pub add_use-requires : goal.add_use-requires
 add_use-requires c =

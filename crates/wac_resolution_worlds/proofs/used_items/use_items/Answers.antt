@@ -1,10 +1,10 @@
-use Rattle.wac_resolution_worlds.proofs.Common.{map, take, arith, err_from_is_err_and, take_all, length-map, use_item_of, means, told, UsesItem, UseItemBroken, used_at, lists_of, reports, none_go, items_break}
+use Rattle.wac_resolution_worlds.proofs.Common.{map, take, arith, err_from_is_err_and, take_all, length-map, use_item_of, means, error_model, UsesItem, UseItemBroken, used_at, lists_of, reports, none_go, items_break}
 use Rattle.wac_graph_types.specs.declared.kind.ItemKind.TheVariants as kinds
 use Rattle.wac_resolution_worlds.proofs.UsedItems.{uses_step, uses_all}
 use Rattle.wac_resolution_worlds.proofs.used_items.use_items.Goals as goal
 
 pub loop-item-init : goal.loop-item-init
-loop-item-init c = none_go (λ naming. UsesItem c.args.side (means naming c.args.state.now.graph (kinds.Instance c.args.used.now.interface))) c.args.side c.args.state.now.graph (lists_of c.args.body.now) c.requires.body
+loop-item-init c = none_go (λ numbering. UsesItem c.args.side (means numbering c.args.state.now.graph (kinds.Instance c.args.used.now.interface))) c.args.side c.args.state.now.graph (lists_of c.args.body.now) c.requires.body
 
 pub use_item-requires-clause-body : goal.use_item-requires-clause-body
 use_item-requires-clause-body c = c.loop-item.invariant.body
@@ -12,7 +12,7 @@ use_item-requires-clause-body c = c.loop-item.invariant.body
 pub returns-in_err-use_item-clause-err : goal.returns-in_err-use_item-clause-err
 returns-in_err-use_item-clause-err c =
     let p = err_from_is_err_and c.from_residual.result c.from_residual.ensures.1 in
-    rw (p.1, p.2) (reports c.in_err-use_item.ensures.err (items_break (λ naming. UsesItem c.args.side (means naming c.args.state.now.graph (kinds.Instance c.args.used.now.interface))) (λ naming. UseItemBroken c.args.side (means naming c.args.state.now.graph (kinds.Instance c.args.used.now.interface)) c.args.used.now.path.now (told c.in_err-use_item.field-0.0))
+    rw (p.1, p.2) (reports c.in_err-use_item.ensures.err (items_break (λ numbering. UsesItem c.args.side (means numbering c.args.state.now.graph (kinds.Instance c.args.used.now.interface))) (λ numbering. UseItemBroken c.args.side (means numbering c.args.state.now.graph (kinds.Instance c.args.used.now.interface)) c.args.used.now.path.now (error_model c.in_err-use_item.field-0.0))
     use_item_of c.args.side c.args.state.now.graph c.args.state.now.graph (lists_of c.args.body.now) (lists_of c.loop-item.body) (used_at (take c.loop-item.item-index (map use_item_of c.args.items.now))) c.args.items.now c.loop-item.item-index c.item-item.result
     c.loop-item-test.true c.item-item.is c.loop-item.invariant))
 

@@ -11,4 +11,4 @@ returns g c =
     let mid = c.write_nodes.new.out in
     let new = c.write_names.new.out in
     let rest = subst (λ (names : Named ℕ). Puts c.write_names.result (g.S.Sink.bytes mid) (g.S.Sink.failures mid) (g.S.Sink.bytes new) (g.S.Sink.failures new) (export_lines names)) c.exports.ensures.exports c.write_names.ensures in
-    λ naming declared. puts_after c.write_names.result _ _ _ _ _ _ _ _ (w naming).0 (w naming).1 rest
+    λ numbering declared. puts_after c.write_names.result _ _ _ _ _ _ _ _ (w numbering).0 (w numbering).1 rest

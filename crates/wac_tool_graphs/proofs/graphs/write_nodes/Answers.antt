@@ -17,7 +17,7 @@ loop-id-preserved g c =
       written = i.written ++ id ∷ [];
       all = one_more i.written _ _ _ _ i.all c.in-Some.ensures.steps;
       there = there.1;
-      put = λ naming. put_more (lines_at naming graph) _ _ _ i.written id (i.put naming) (at_lines naming graph id (λ text. g.S.Sink.bytes c.write_node.new.out ≡ g.S.Sink.bytes c.loop-id.out ++ text) there.0 (λ n is. (w naming n is).0));
+      put = λ numbering. put_more (lines_at numbering graph) _ _ _ i.written id (i.put numbering) (at_lines numbering graph id (λ text. g.S.Sink.bytes c.write_node.new.out ≡ g.S.Sink.bytes c.loop-id.out ++ text) there.0 (λ n is. (w numbering n is).0));
       failures = at_lines (λ _. 0) graph id (λ text. g.S.Sink.failures c.write_node.new.out ≡ g.S.Sink.failures c.loop-id.out) there.0 (λ n is. (w (λ _. 0) n is).1) ∙ i.failures;
     }
 
@@ -31,10 +31,10 @@ returns-in_err-write_node g c =
     let e : c.from_residual.result ≡ Err c.in_err-write_node.field-0.0 = search rules in
     let old = g.S.Sink.bytes c.loop-id.out in
     let new = g.S.Sink.bytes c.write_node.new.out in
-    λ naming. subst (Puts c.from_residual.result _ _ _ _) (lines_by_number naming graph) (
-    fails_in (lines_at naming graph) _ _ _ _ _ _ _ _ i.written _ _ _ id e i.all c.in-Some.ensures.steps (i.put naming) i.failures
-    (at_lines naming graph id (Began old new) there.0 (λ n is. (w naming n is).0))
-    (at_lines naming graph id (λ text. g.S.Sink.failures c.write_node.new.out ≡ g.S.Sink.failures c.loop-id.out + 1) there.0 (λ n is. (w naming n is).1))
+    λ numbering. subst (Puts c.from_residual.result _ _ _ _) (lines_by_number numbering graph) (
+    fails_in (lines_at numbering graph) _ _ _ _ _ _ _ _ i.written _ _ _ id e i.all c.in-Some.ensures.steps (i.put numbering) i.failures
+    (at_lines numbering graph id (Began old new) there.0 (λ n is. (w numbering n is).0))
+    (at_lines numbering graph id (λ text. g.S.Sink.failures c.write_node.new.out ≡ g.S.Sink.failures c.loop-id.out + 1) there.0 (λ n is. (w numbering n is).1))
     )
 
 pub returns : goal.returns
@@ -42,4 +42,4 @@ returns g c =
     let i = c.loop-id.invariant in
     let graph = c.args.graph.now in
     let all = none_left i.written _ _ i.all c.in-None.ensures.steps.0 in
-    λ naming. (i.put naming ∙ ap (λ l. g.S.Sink.bytes c.args.out.now ++ l) (ap (flat_map (lines_at naming graph)) all ∙ lines_by_number naming graph), i.failures)
+    λ numbering. (i.put numbering ∙ ap (λ l. g.S.Sink.bytes c.args.out.now ++ l) (ap (flat_map (lines_at numbering graph)) all ∙ lines_by_number numbering graph), i.failures)

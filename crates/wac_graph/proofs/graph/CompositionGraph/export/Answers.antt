@@ -9,7 +9,7 @@ named es m name None table is = tt
 named es m name (Some k) table is = found_named es name (kind_exports es m) k (kind_exports_named es (each_entry_named es table) m) (sym is)
 
 pub returns-clause-means : goal.returns-clause-means
-returns-clause-means c = λ naming. export_means naming c.args.self.now c.args.kind c.args.name.now c.export.result (subst IsSound c.self.view_is c.self.invariant) c.requires
+returns-clause-means c = λ numbering. export_means numbering c.args.self.now c.args.kind c.args.name.now c.export.result (subst IsSound c.self.view_is c.self.invariant) c.requires
     (c.export.ensures ∙ ap (λ (g : Parts). look_up c.args.name.now (kind_exports g.types c.args.kind)) c.self.view_is)
 
 pub returns-clause-named : goal.returns-clause-named

@@ -1,5 +1,5 @@
 use Rattle.wac_lexer.proofs.Common.{rules, arith, length, take, drop, ◌≡◌, ◌+◌, ◌++◌, ◌∙◌, ap, length-take-le}
-use Rattle.wac_lexer.proofs.Passing.{written_behind, holding_more}
+use Rattle.wac_lexer.proofs.Passing.{written_after, holding_more}
 use Rattle.wac_lexer.proofs.device.Blocks.hold.Goals as goal
 
 pub returns-clause-held : goal.returns-clause-held
@@ -14,5 +14,5 @@ returns-clause-held g c =
     let held : drop i.start (take (i.end + n) (c.split_at_mut-free.result.0.now ++ (c.copy_from_slice.new.self ++ rest))) ≡ drop i.start (take i.end i.block) ++ take n c.args.part.now =
     ap (λ x. drop i.start (take (i.end + n) (x ++ (c.copy_from_slice.new.self ++ rest)))) front
     ∙ ap (λ x. drop i.start (take (i.end + n) (take i.end i.block ++ (x ++ rest)))) put
-    ∙ written_behind (take i.end i.block) (take n c.args.part.now) rest i.start i.end n fits whole c.self.invariant.0 in
+    ∙ written_after (take i.end i.block) (take n c.args.part.now) rest i.start i.end n fits whole c.self.invariant.0 in
     holding_more _ _ _ _ _ _ c.self.view_is held (omega arith)

@@ -8,8 +8,8 @@ returns-in_err-print-in-Some g c =
     let e : c.from_residual.result ≡ Err c.in_err-print-in-Some.field-0.0 = search rules in
     first_stops _ _ _ _ _ _ _ (joined-some (g.T.Node.layout s.source s.depth) c.args.items.now c.in-Some.first.now c.in-Some.rest.now c.in-Some.ensures.cases.0) e c.in_err-print-in-Some.ensures
 
-pub behind_commas-requires : goal.behind_commas-requires
-behind_commas-requires g c =
+pub after_commas-requires : goal.after_commas-requires
+after_commas-requires g c =
     others_sliced g.T.Node.sliced c.args.self.now c.print.new.printer _ _ c.in-Some.rest.now c.in_ok-print-in-Some.ensures
     (All-rest (g.T.Node.sliced c.args.self.now.source) c.args.items.now c.in-Some.first.now c.in-Some.rest.now c.in-Some.ensures.cases.0 c.requires)
 
@@ -23,4 +23,4 @@ pub returns-in_ok-print-in-Some : goal.returns-in_ok-print-in-Some
 returns-in_ok-print-in-Some g c =
     let s = c.args.self.now in
     first_goes _ _ _ _ _ _ _ (λ source depth. flat_map (λ x. (token (codes ",") ∷ space ∷ []) ++ g.T.Node.layout source depth x) c.in-Some.rest.now) (joined-some (g.T.Node.layout s.source s.depth) c.args.items.now c.in-Some.first.now c.in-Some.rest.now c.in-Some.ensures.cases.0)
-    c.in_ok-print-in-Some.ensures c.behind_commas.ensures
+    c.in_ok-print-in-Some.ensures c.after_commas.ensures

@@ -8,8 +8,8 @@ returns-in_err-ended-in-Some g c =
     let e : c.from_residual.result ≡ Err c.in_err-ended-in-Some.field-0.0 = search rules in
     first_stops _ _ _ _ _ _ _ (spaced-some (g.T.Node.layout s.source s.depth) c.args.items.now c.in-Some.first.now c.in-Some.rest.now c.in-Some.ensures.cases.0) e c.in_err-ended-in-Some.ensures
 
-pub behind_empty_lines-requires : goal.behind_empty_lines-requires
-behind_empty_lines-requires g c =
+pub after_empty_lines-requires : goal.after_empty_lines-requires
+after_empty_lines-requires g c =
     others_sliced g.T.Node.sliced c.args.self.now c.ended.new.self _ _ c.in-Some.rest.now c.in_ok-ended-in-Some.ensures
     (All-rest (g.T.Node.sliced c.args.self.now.source) c.args.items.now c.in-Some.first.now c.in-Some.rest.now c.in-Some.ensures.cases.0 c.requires)
 
@@ -23,4 +23,4 @@ pub returns-in_ok-ended-in-Some : goal.returns-in_ok-ended-in-Some
 returns-in_ok-ended-in-Some g c =
     let s = c.args.self.now in
     first_goes _ _ _ _ _ _ _ (λ source depth. flat_map (λ x. newline ∷ (g.T.Node.layout source depth x ++ newline ∷ [])) c.in-Some.rest.now) (spaced-some (g.T.Node.layout s.source s.depth) c.args.items.now c.in-Some.first.now c.in-Some.rest.now c.in-Some.ensures.cases.0)
-    c.in_ok-ended-in-Some.ensures c.behind_empty_lines.ensures
+    c.in_ok-ended-in-Some.ensures c.after_empty_lines.ensures

@@ -20,4 +20,4 @@ pub returns : goal.returns
 returns g c =
     let o = c.put_all.ensures.taken c.if-not-put_all.false in
     let b = o.0 ∙ ap (λ t. g.S.Sink.bytes c.self.inside.sink ++ t) c.as_bytes.ensures.value in
-    wrote _ _ _ _ _ c.self.view_is c.if-self.false (record_wrote _ _ _ _ _ _ _ _ _ _ _ _ b o.1 c.put_all.ensures.same c.is_fresh_behind-self-inside.ensures)
+    wrote _ _ _ _ _ c.self.view_is c.if-self.false (record_wrote _ _ _ _ _ _ _ _ _ _ _ _ b o.1 c.put_all.ensures.same c.is_fresh_after-self-inside.ensures)

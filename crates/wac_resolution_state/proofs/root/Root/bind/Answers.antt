@@ -6,7 +6,7 @@ use Rattle.wac_resolution_state.proofs.root.Root.bind.Goals as goal
 pub returns-in_err-check_fresh-clause-err : goal.returns-in_err-check_fresh-clause-err
 returns-in_err-check_fresh-clause-err c =
     let p = err_from_is_err_and c.from_residual.result c.from_residual.ensures.1 in
-    rw (p.1, p.2) (reports c.in_err-check_fresh.ensures.err (λ err naming all same. err naming c.args.state.now.graph all same))
+    rw (p.1, p.2) (reports c.in_err-check_fresh.ensures.err (λ err numbering all same. err numbering c.args.state.now.graph all same))
 
 pub kind-kind-requires : goal.kind-kind-requires
 kind-kind-requires c = still_there c.args.state.now.graph c.name_node.new.state.graph c.args.node.0 c.in_ok-name_node.ensures.grows c.requires.there

@@ -11,7 +11,7 @@ returns-then-has_colon-clause-ok c =
 pub returns-in_err-check_taken-clause-err : goal.returns-in_err-check_taken-clause-err
 returns-in_err-check_taken-clause-err c =
     let p = err_from_is_err_and c.from_residual-in_err-check_taken.result c.from_residual-in_err-check_taken.ensures.1 in
-    rw (p.1, p.2) (reports c.in_err-check_taken.ensures.err (λ err naming g before. err naming g before (means naming g c.args.taken.now.kind)))
+    rw (p.1, p.2) (reports c.in_err-check_taken.ensures.err (λ err numbering g before. err numbering g before (means numbering g c.args.taken.now.kind)))
 
 pub returns-clause-ok : goal.returns-clause-ok
 returns-clause-ok c =

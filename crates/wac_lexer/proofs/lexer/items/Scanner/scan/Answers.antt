@@ -1,6 +1,6 @@
 use Rattle.wac_lexer.proofs.Common.{arith, ◌≡◌, ◌+◌, ◌<◌, ◌^◌, [], ◌∷◌, ap, sym, ◌∙◌, subst, drop, Some, IsCharBoundary, IsCharBoundary-from_rest}
 use Rattle.wac_lexer.specs.Span.{span, end_of}
-use Rattle.wac_lexer.specs.Item.{handed}
+use Rattle.wac_lexer.specs.Item.{next_token}
 use Rattle.wac_lexer.specs.Items.{first_item, items_from}
 use Rattle.wac_lexer.specs.Reading.{Slices}
 use Rattle.wac_lexer.proofs.Unfolded.{made, items_none, items_some}
@@ -15,7 +15,7 @@ none c =
     (ap (λ start. first_item (drop start source)) (sym c.start_of-start.ensures.start) ∙ ap first_item (sym c.range_from.ensures.value) ∙ sym c.first_item.ensures.item ∙ c.in_err-found.was)
 
 pub returns-in_err-found-clause-item : goal.returns-in_err-found-clause-item
-returns-in_err-found-clause-item c = rw c.from_residual.ensures (record { is = sym (ap handed (none c)); slices = tt; fits = tt })
+returns-in_err-found-clause-item c = rw c.from_residual.ensures (record { is = sym (ap next_token (none c)); slices = tt; fits = tt })
 
 -- something is found: a token or a fault
 some : (c : After-new) → items_from c.args.self.now.source.now c.args.place ≡ made c.args.self.now.source.now c.args.place (c.in_ok-found.found, c.in_ok-found.len) ∷ items_from c.args.self.now.source.now (end_of c.new.result)
@@ -38,7 +38,7 @@ returns-clause-item c =
     let slices : Slices source (span start c.in_ok-found.len) = (from, IsCharBoundary-from_rest source start c.in_ok-found.len from.0 to) in
     let fits : end_of c.new.result < 2 ^ 64 = subst (λ s. end_of s < 2 ^ 64) (sym c.new.ensures) (search arith) in
     record {
-      is = ap (λ s. Some (c.in_ok-found.found, s)) (span_is c) ∙ sym (ap handed (some c));
+      is = ap (λ s. Some (c.in_ok-found.found, s)) (span_is c) ∙ sym (ap next_token (some c));
       slices = subst (Slices source) (sym c.new.ensures) slices;
       fits = fits;
     }

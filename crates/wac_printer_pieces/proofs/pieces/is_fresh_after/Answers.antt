@@ -1,6 +1,6 @@
 use Rattle.wac_printer_pieces.proofs.Common.{sym, ap, ◌≡◌, ◌∙◌, length, ◌-◌, Some, slice_get}
 use Rattle.wac_printer_pieces.proofs.Printing.{fresh_after-get}
-use Rattle.wac_printer_pieces.proofs.pieces.is_fresh_behind.Goals as goal
+use Rattle.wac_printer_pieces.proofs.pieces.is_fresh_after.Goals as goal
 
 pub returns-in-Some : goal.returns-in-Some
 returns-in-Some c =

@@ -7,7 +7,7 @@ use Rattle.wac_recovery.specs.Attempts.{stand_in}
 use Rattle.wac_recovery.specs.Blanked.{blanked}
 use Rattle.wac_recovery.specs.Faults.{IsFirstFault}
 use Rattle.wac_recovery.proofs.Standing.{before, faultless}
-use Rattle.wac_recovery.proofs.alone.fault_behind.Goals as goal
+use Rattle.wac_recovery.proofs.alone.fault_after.Goals as goal
 
 pub blanked-requires : goal.blanked-requires
 blanked-requires c =
