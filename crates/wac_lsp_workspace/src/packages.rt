@@ -180,10 +180,7 @@ impl Packages {
         KnownPackages {
             declared: &self.declared,
             names: self.names.as_slice(),
-            searched: Searched {
-                paths: &[],
-                misplaced: &[],
-            },
+            searched: Searched::Folders,
         }
     }
 
