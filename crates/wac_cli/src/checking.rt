@@ -6,9 +6,10 @@ use std::alloc::{AllocError, Global};
 use std::io::{Read, Write};
 use wac_all_errors::all_errors;
 use wac_cli_console::{
-    Console, Outcome, Report, STDIN, SourceFile, Status, Task, finish, finish_input, read_all,
+    Console, InputOptions, Outcome, Report, STDIN, SourceFile, Status, Task, finish, finish_input,
+    read_all,
 };
-use wac_files::{FileError, FileSystem, Found, find_files};
+use wac_files::{FileError, FileSystem, Found, Listing, find_all};
 use wac_first_error::{Verdict, first_error};
 
 /// How many errors of a file are told.
@@ -41,7 +42,11 @@ fn check_all<F: FileSystem, O: Write + Drop, E: Write + Drop>(
 ) -> Result<Vec<Outcome>, AllocError>
     ensures { F.replaced files.new ≡ F.replaced files.old }
 {
-    let found = find_files(alloc, files, paths)?;
+    let Listing {
+        files: found,
+        others,
+    } = find_all(alloc, files, paths)?;
+    console.passed_over(alloc, others.as_slice())?;
     check_each(alloc, files, console, report, found.as_slice())
 }
 
@@ -163,17 +168,16 @@ fn report_all<O: Write + Drop, E: Write + Drop>(
     Ok(())
 }
 
-/// Reports the errors of a reader's text. Its name in messages is `name`, or else `<stdin>`. Nothing is written
-/// where all is well.
+/// Reports the errors of a reader's text. Nothing is written where all is well.
 pub fn check_input<I: Read, O: Write + Drop, E: Write + Drop>(
     alloc: Global,
     input: &mut I,
     console: &mut Console<O, E>,
     report: Report,
-    name: Option<&str>,
+    reading: InputOptions<'_>,
 ) -> Status {
-    let name = name.unwrap_or(STDIN);
-    let read = read_all(alloc, input);
+    let name = reading.name.unwrap_or(STDIN);
+    let read = read_all(alloc, input, reading.most);
     let outcome = checked(alloc, console, report, name, read);
     finish_input(alloc, console, Task::Check, outcome)
 }

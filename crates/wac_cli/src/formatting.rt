@@ -9,11 +9,11 @@ use crate::planning::Plan;
 use std::alloc::{AllocError, Global};
 use std::io::{Read, Write};
 use wac_cli_console::{
-    Action, Console, Outcome, Report, STDIN, SourceFile, Status, Task, finish, finish_input,
-    read_all,
+    Action, Console, InputOptions, Outcome, Report, STDIN, SourceFile, Status, Task, finish,
+    finish_input, read_all,
 };
 use wac_diff::unified;
-use wac_files::{FileError, FileSystem, Found, find_files};
+use wac_files::{FileError, FileSystem, Found, Listing, find_all};
 
 /// Formats the files that paths lead to, or names those that are not tidy.
 ///
@@ -47,7 +47,13 @@ fn format_all<F: FileSystem, O: Write + Drop, E: Write + Drop>(
 ) -> Result<Vec<Outcome>, AllocError>
     ensures { OnlyFormats options (F.replaced files.old) (F.replaced files.new) }
 {
-    let found = find_files(alloc, files, paths)?;
+    let Listing {
+        files: mut found,
+        others,
+    } = find_all(alloc, files, paths)?;
+    // A link that wasn't named may lead to a file that wasn't meant.
+    found.retain(|found| !found.is_link);
+    console.passed_over(alloc, others.as_slice())?;
     format_each(alloc, files, console, options, found.as_slice())
 }
 
@@ -123,6 +129,9 @@ fn format_file<F: FileSystem, O: Write + Drop, E: Write + Drop>(
 ) -> Result<Outcome, FileError>
     ensures { ReturnsOutcome options path.now result (F.replaced files.old) (F.replaced files.new) }
 {
+    if options.action == Action::Write {
+        files.sweep(alloc, path)?;
+    }
     let bytes = files.read(alloc, path)?;
     match Plan::of(alloc, bytes.as_slice(), options)? {
         Plan::Tidy => Ok(Outcome::Good),
@@ -174,21 +183,19 @@ fn show_diff<O: Write + Drop, E: Write + Drop>(
     let mut name = String::new(alloc);
     wac_excerpts::push_shown(&mut name, path)?;
     let diff = unified(alloc, name.as_str(), text, tidy_text)?;
-    console.write(diff.as_bytes());
-    Ok(())
+    console.write_text(alloc, diff.as_str())
 }
 
-/// Formats a reader's text, and writes it to the output; or names it, or shows how it differs, where it isn't tidy. Its
-/// name in messages is `name`, or else `<stdin>`. Nothing else is written where all is well.
+/// Formats a reader's text, and writes it to the output; or names it, or shows how it differs, where it isn't tidy. Nothing else is written where all is well.
 pub fn format_input<I: Read, O: Write + Drop, E: Write + Drop>(
     alloc: Global,
     input: &mut I,
     console: &mut Console<O, E>,
     options: FormatOptions,
-    name: Option<&str>,
+    reading: InputOptions<'_>,
 ) -> Status {
-    let name = name.unwrap_or(STDIN);
-    let outcome = match format_read(alloc, input, console, options, name) {
+    let name = reading.name.unwrap_or(STDIN);
+    let outcome = match format_read(alloc, input, console, options, reading) {
         Ok(outcome) => outcome,
         Err(error) => console.failed(alloc, Report::Human, name, error),
     };
@@ -200,9 +207,10 @@ fn format_read<I: Read, O: Write + Drop, E: Write + Drop>(
     input: &mut I,
     console: &mut Console<O, E>,
     options: FormatOptions,
-    name: &str,
+    reading: InputOptions<'_>,
 ) -> Result<Outcome, FileError> {
-    let bytes = read_all(alloc, input)?;
+    let name = reading.name.unwrap_or(STDIN);
+    let bytes = read_all(alloc, input, reading.most)?;
     match Plan::of(alloc, bytes.as_slice(), options)? {
         Plan::Tidy => {
             if options.action == Action::Write {

@@ -7,7 +7,7 @@ use std::alloc::{AllocError, Global};
 use std::io::{ErrorKind, Write};
 use std::string::ToString;
 use wac_diagnostics::{Diagnostic, github, human, json};
-use wac_excerpts::push_shown;
+use wac_excerpts::{push_carets, push_shown};
 use wac_files::FileError;
 
 /// A writer that is written to until it fails.
@@ -53,6 +53,8 @@ pub struct Console<O: Write + Drop, E: Write + Drop> {
     color: bool,
     // Whether the last line, which counts files, is left out.
     quiet: bool,
+    // Whether the output is a terminal.
+    on_terminal: bool,
 }
 
 impl<O: Write + Drop, E: Write + Drop> Console<O, E> {
@@ -63,12 +65,44 @@ impl<O: Write + Drop, E: Write + Drop> Console<O, E> {
             errors: Channel::new(errors),
             color,
             quiet,
+            on_terminal: false,
         }
+    }
+
+    /// Says whether the output is a terminal, which may take characters of a text for commands.
+    pub fn set_on_terminal(&mut self, on_terminal: bool) {
+        self.on_terminal = on_terminal;
+    }
+
+    /// Writes which paths were passed over, unless the last line is to be left out too.
+    pub fn passed_over(&mut self, alloc: Global, paths: &[String]) -> Result<(), AllocError> {
+        if self.quiet {
+            return Ok(());
+        }
+        for path in paths {
+            let mut line = String::new(alloc);
+            push_shown(&mut line, path.as_str())?;
+            line.push_str(": passed over, since it is no file\n")?;
+            self.errors.write(line.as_bytes());
+        }
+        Ok(())
     }
 
     /// Writes a text for programs.
     pub fn write(&mut self, text: &[u8]) {
         self.output.write(text);
+    }
+
+    /// Writes a text for programs. A terminal gets what it could take for a command as `cat -v` shows it.
+    pub fn write_text(&mut self, alloc: Global, text: &str) -> Result<(), AllocError> {
+        if !self.on_terminal {
+            self.output.write(text.as_bytes());
+            return Ok(());
+        }
+        let mut shown = String::new(alloc);
+        push_carets(&mut shown, text)?;
+        self.output.write(shown.as_bytes());
+        Ok(())
     }
 
     /// Writes the path of a file, on a line for programs.
@@ -143,6 +177,13 @@ impl<O: Write + Drop, E: Write + Drop> Console<O, E> {
         }
     }
 
+    /// Says that paths led to no document.
+    pub fn no_document(&mut self) -> Status {
+        self.errors
+            .write(b"error[wac::no-document]: no document was found\n");
+        Status::Wrong
+    }
+
     /// Says that a request for memory failed.
     pub fn out_of_memory(&mut self) -> Status {
         self.errors
@@ -158,8 +199,17 @@ impl<O: Write + Drop, E: Write + Drop> Console<O, E> {
         }
     }
 
+    /// Ends what is written: says that the output failed, if it did. Returns the worst status that this and others lead to.
+    pub fn end(&mut self, alloc: Global, status: Status) -> Status {
+        let reported = match self.report_output(alloc) {
+            Ok(()) => Status::Well,
+            Err(AllocError) => self.out_of_memory(),
+        };
+        status.or(self.output_status()).or(reported)
+    }
+
     /// Says that the output failed, if it did.
-    pub fn report_output(&mut self, alloc: Global) -> Result<(), AllocError> {
+    fn report_output(&mut self, alloc: Global) -> Result<(), AllocError> {
         match self.output.failure {
             None | Some(ErrorKind::BrokenPipe) => Ok(()),
             Some(kind) => {

@@ -2,25 +2,24 @@
 use crate::console::Console;
 use crate::last_line::{Task, summary};
 use crate::outcome::{Outcome, Status, worst};
-use std::alloc::{AllocError, Global};
+use std::alloc::Global;
 use std::io::Write;
 
-/// Writes the last line. Returns the status that files and output lead to.
+/// Writes the last line, and before it that there was no file, if there was none. Returns the status that files and
+/// output lead to.
 pub fn finish<O: Write + Drop, E: Write + Drop>(
     alloc: Global,
     console: &mut Console<O, E>,
     task: Task,
     outcomes: &[Outcome],
 ) -> Status {
-    let reported = match console.report_output(alloc) {
-        Ok(()) => Status::Well,
-        Err(AllocError) => console.out_of_memory(),
+    let status = if outcomes.is_empty() {
+        console.no_document()
+    } else {
+        worst(outcomes, task.action())
     };
-    let written = console.last_line(summary(alloc, task, outcomes));
-    worst(outcomes, task.action())
-        .or(console.output_status())
-        .or(reported)
-        .or(written)
+    let status = console.end(alloc, status);
+    status.or(console.last_line(summary(alloc, task, outcomes)))
 }
 
 /// As `finish`, but says nothing where all is well.
