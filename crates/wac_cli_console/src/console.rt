@@ -188,7 +188,7 @@ impl<O: Write + Drop, E: Write + Drop> Console<O, E> {
     /// Says that paths led to no document.
     pub fn no_document(&mut self) -> Status {
         self.errors
-            .write(b"error[wac::no-document]: no document was found\n");
+            .write(b"error[wac::nothing-to-check]: no document was found\n");
         Status::Wrong
     }
 

@@ -5,7 +5,7 @@ use indexmap::IndexMap;
 use std::alloc::{AllocError, Global};
 use wac_declared_packages::copied_package;
 use wac_graph::Package;
-use wac_package_errors::{Declared, KnownPackages, declare_all};
+use wac_package_errors::{Declared, KnownPackages, Searched, declare_all};
 use wac_package_names::key_named;
 
 /// The packages that the documents and components of folders have.
@@ -180,6 +180,7 @@ impl Packages {
         KnownPackages {
             declared: &self.declared,
             names: self.names.as_slice(),
+            searched: Searched::Folders,
         }
     }
 
