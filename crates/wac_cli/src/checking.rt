@@ -6,7 +6,8 @@ use std::alloc::{AllocError, Global};
 use std::io::{Read, Write};
 use wac_all_errors::all_errors;
 use wac_cli_console::{
-    Console, Outcome, Report, STDIN, SourceFile, Status, Task, finish, finish_input, read_all,
+    Console, InputOptions, Outcome, Report, STDIN, SourceFile, Status, Task, finish, finish_input,
+    read_all,
 };
 use wac_files::{FileError, FileSystem, Found, find_files};
 use wac_first_error::{Verdict, first_error};
@@ -163,17 +164,16 @@ fn report_all<O: Write + Drop, E: Write + Drop>(
     Ok(())
 }
 
-/// Reports the errors of a reader's text. Its name in messages is `name`, or else `<stdin>`. Nothing is written
-/// where all is well.
+/// Reports the errors of a reader's text. Nothing is written where all is well.
 pub fn check_input<I: Read, O: Write + Drop, E: Write + Drop>(
     alloc: Global,
     input: &mut I,
     console: &mut Console<O, E>,
     report: Report,
-    name: Option<&str>,
+    reading: InputOptions<'_>,
 ) -> Status {
-    let name = name.unwrap_or(STDIN);
-    let read = read_all(alloc, input);
+    let name = reading.name.unwrap_or(STDIN);
+    let read = read_all(alloc, input, reading.most);
     let outcome = checked(alloc, console, report, name, read);
     finish_input(alloc, console, Task::Check, outcome)
 }

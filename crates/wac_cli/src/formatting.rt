@@ -9,8 +9,8 @@ use crate::planning::Plan;
 use std::alloc::{AllocError, Global};
 use std::io::{Read, Write};
 use wac_cli_console::{
-    Action, Console, Outcome, Report, STDIN, SourceFile, Status, Task, finish, finish_input,
-    read_all,
+    Action, Console, InputOptions, Outcome, Report, STDIN, SourceFile, Status, Task, finish,
+    finish_input, read_all,
 };
 use wac_diff::unified;
 use wac_files::{FileError, FileSystem, Found, find_files};
@@ -178,17 +178,16 @@ fn show_diff<O: Write + Drop, E: Write + Drop>(
     Ok(())
 }
 
-/// Formats a reader's text, and writes it to the output; or names it, or shows how it differs, where it isn't tidy. Its
-/// name in messages is `name`, or else `<stdin>`. Nothing else is written where all is well.
+/// Formats a reader's text, and writes it to the output; or names it, or shows how it differs, where it isn't tidy. Nothing else is written where all is well.
 pub fn format_input<I: Read, O: Write + Drop, E: Write + Drop>(
     alloc: Global,
     input: &mut I,
     console: &mut Console<O, E>,
     options: FormatOptions,
-    name: Option<&str>,
+    reading: InputOptions<'_>,
 ) -> Status {
-    let name = name.unwrap_or(STDIN);
-    let outcome = match format_read(alloc, input, console, options, name) {
+    let name = reading.name.unwrap_or(STDIN);
+    let outcome = match format_read(alloc, input, console, options, reading) {
         Ok(outcome) => outcome,
         Err(error) => console.failed(alloc, Report::Human, name, error),
     };
@@ -200,9 +199,10 @@ fn format_read<I: Read, O: Write + Drop, E: Write + Drop>(
     input: &mut I,
     console: &mut Console<O, E>,
     options: FormatOptions,
-    name: &str,
+    reading: InputOptions<'_>,
 ) -> Result<Outcome, FileError> {
-    let bytes = read_all(alloc, input)?;
+    let name = reading.name.unwrap_or(STDIN);
+    let bytes = read_all(alloc, input, reading.most)?;
     match Plan::of(alloc, bytes.as_slice(), options)? {
         Plan::Tidy => {
             if options.action == Action::Write {

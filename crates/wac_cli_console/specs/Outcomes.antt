@@ -39,6 +39,10 @@ failure_of errors.ReadOnly = Failed
 failure_of errors.NotAFile = Failed
 failure_of errors.ChangedMeanwhile = Failed
 failure_of errors.NameNotUtf8 = Failed
+failure_of errors.NameTooLong = Failed
+failure_of (errors.TooLarge _) = Failed
+failure_of (errors.Interrupted _) = Failed
+failure_of (errors.HalfWritten _) = Failed
 failure_of (errors.System _) = Failed
 failure_of errors.OutOfMemory = OutOfMemory
 

@@ -53,6 +53,8 @@ pub struct Console<O: Write + Drop, E: Write + Drop> {
     color: bool,
     // Whether the last line, which counts files, is left out.
     quiet: bool,
+    // Whether the output is a terminal.
+    on_terminal: bool,
 }
 
 impl<O: Write + Drop, E: Write + Drop> Console<O, E> {
@@ -63,7 +65,25 @@ impl<O: Write + Drop, E: Write + Drop> Console<O, E> {
             errors: Channel::new(errors),
             color,
             quiet,
+            on_terminal: false,
         }
+    }
+
+    /// Says whether the output is a terminal, which no byte of control may reach.
+    pub fn set_on_terminal(&mut self, on_terminal: bool) {
+        self.on_terminal = on_terminal;
+    }
+
+    /// Writes that a path was passed over, unless the last line is to be left out too.
+    pub fn passed_over(&mut self, alloc: Global, path: &str) -> Result<(), AllocError> {
+        if self.quiet {
+            return Ok(());
+        }
+        let mut line = String::new(alloc);
+        push_shown(&mut line, path)?;
+        line.push_str(": passed over: neither a file nor a folder\n")?;
+        self.errors.write(line.as_bytes());
+        Ok(())
     }
 
     /// Writes a text for programs.
@@ -158,8 +178,17 @@ impl<O: Write + Drop, E: Write + Drop> Console<O, E> {
         }
     }
 
+    /// Ends what is written: says that the output failed, if it did. Returns the worst status that this and others lead to.
+    pub fn end(&mut self, alloc: Global, status: Status) -> Status {
+        let reported = match self.report_output(alloc) {
+            Ok(()) => Status::Well,
+            Err(AllocError) => self.out_of_memory(),
+        };
+        status.or(self.output_status()).or(reported)
+    }
+
     /// Says that the output failed, if it did.
-    pub fn report_output(&mut self, alloc: Global) -> Result<(), AllocError> {
+    fn report_output(&mut self, alloc: Global) -> Result<(), AllocError> {
         match self.output.failure {
             None | Some(ErrorKind::BrokenPipe) => Ok(()),
             Some(kind) => {

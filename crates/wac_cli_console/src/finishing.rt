@@ -2,7 +2,7 @@
 use crate::console::Console;
 use crate::last_line::{Task, summary};
 use crate::outcome::{Outcome, Status, worst};
-use std::alloc::{AllocError, Global};
+use std::alloc::Global;
 use std::io::Write;
 
 /// Writes the last line. Returns the status that files and output lead to.
@@ -12,15 +12,8 @@ pub fn finish<O: Write + Drop, E: Write + Drop>(
     task: Task,
     outcomes: &[Outcome],
 ) -> Status {
-    let reported = match console.report_output(alloc) {
-        Ok(()) => Status::Well,
-        Err(AllocError) => console.out_of_memory(),
-    };
-    let written = console.last_line(summary(alloc, task, outcomes));
-    worst(outcomes, task.action())
-        .or(console.output_status())
-        .or(reported)
-        .or(written)
+    let status = console.end(alloc, worst(outcomes, task.action()));
+    status.or(console.last_line(summary(alloc, task, outcomes)))
 }
 
 /// As `finish`, but says nothing where all is well.

@@ -6,13 +6,25 @@ use wac_files::FileError;
 /// The name of standard input where no other is given.
 pub const STDIN: &str = "<stdin>";
 
-/// All bytes of a reader.
-pub fn read_all<I: Read>(alloc: Global, input: &mut I) -> Result<Vec<u8>, FileError> {
+/// How standard input is read.
+#[derive(Clone, Copy, Debug, PartialEq, Eq)]
+pub struct InputOptions<'n> {
+    /// Its name in messages, in place of `<stdin>`.
+    pub name: Option<&'n str>,
+    /// The most bytes that it may have.
+    pub most: u64,
+}
+
+/// All bytes of a reader, which are at most so many: of one that has more no more are kept.
+pub fn read_all<I: Read>(alloc: Global, input: &mut I, most: u64) -> Result<Vec<u8>, FileError> {
     let mut bytes = Vec::new(alloc);
     let mut part = [0u8; 65536];
     for _ in 0..u64::MAX {
         match input.read(&mut part) {
             Ok(0) => break,
+            Ok(len) if (bytes.len() as u64).saturating_add(len as u64) > most => {
+                return Err(FileError::TooLarge(most));
+            }
             Ok(len) => bytes.extend_from_slice(&part[..len])?,
             Err(error) if error.kind() == ErrorKind::Interrupted => {}
             Err(error) => return Err(FileError::from(error)),

@@ -19,7 +19,7 @@ mod outcome;
 
 pub use console::{Console, SourceFile};
 pub use finishing::{finish, finish_input};
-pub use input::{STDIN, read_all};
+pub use input::{InputOptions, STDIN, read_all};
 pub use last_line::Task;
 pub use options::{Action, Report};
 pub use outcome::{Outcome, Status};

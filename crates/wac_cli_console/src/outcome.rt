@@ -73,6 +73,10 @@ impl Outcome {
             | FileError::NotAFile
             | FileError::ChangedMeanwhile
             | FileError::NameNotUtf8
+            | FileError::NameTooLong
+            | FileError::TooLarge(_)
+            | FileError::Interrupted(_)
+            | FileError::HalfWritten(_)
             | FileError::System(_) => Outcome::Failed,
             FileError::OutOfMemory => Outcome::OutOfMemory,
         }

@@ -11,6 +11,9 @@ use std::io::{ErrorKind, Read, Write};
 use std::os::unix::fs::{MetadataExt, OpenOptionsExt, PermissionsExt};
 use std::{fs, io};
 
+/// The most bytes that a file that is read may have, where no other number is asked for: 64 MiB.
+pub const MOST_BYTES: u64 = 64 * 1024 * 1024;
+
 // How many names are tried for a temporary file.
 const MOST_NAMES: u32 = 1000;
 
@@ -24,17 +27,21 @@ pub struct Disk<R: Files + Drop> {
     files: R,
     // A number that no other run has at the same time, as that of the process.
     run: u32,
+    // The most bytes that a file that is read may have.
+    most: u64,
     // How many temporary files were named.
     named: u32,
     log: Log,
 }
 
 impl<R: Files + Drop> Disk<R> {
-    /// The files that `files` reaches. `run` is a number that no other run has at the same time, as that of the process.
-    pub fn new(files: R, run: u32) -> Self {
+    /// The files that `files` reaches. `run` is a number that no other run has at the same time, as that of the process. A
+    /// file of more than `most` bytes isn't read.
+    pub fn new(files: R, run: u32, most: u64) -> Self {
         Disk {
             files,
             run,
+            most,
             named: 0,
             log: Log::after(&Step::Begins),
         }
@@ -78,7 +85,7 @@ impl<R: Files + Drop> Disk<R> {
 
     /// Renames a file over another, if that one holds these bytes.
     fn put(&self, alloc: Global, from: &str, to: &str, held: &[u8]) -> Result<(), FileError> {
-        let now = read_file(alloc, &self.files, to)?;
+        let now = read_file(alloc, &self.files, to, self.most)?;
         if now.as_slice() != held {
             return Err(FileError::ChangedMeanwhile);
         }
@@ -126,7 +133,7 @@ impl<R: Files + Drop> FileSystem for Disk<R> {
     }
 
     fn read(&mut self, alloc: Global, path: &str) -> Result<Vec<u8>, FileError> {
-        Ok(read_file(alloc, &self.files, path)?)
+        Ok(read_file(alloc, &self.files, path, self.most)?)
     }
 
     fn replace(
@@ -167,11 +174,19 @@ fn kind_of(metadata: &Metadata) -> Kind {
     }
 }
 
-/// All bytes of a regular file. Nothing else is opened.
-fn read_file<R: Files>(alloc: Global, files: &R, path: &str) -> Result<Vec<u8>, FileError> {
+/// All bytes of a regular file of at most so many. Nothing else is opened.
+fn read_file<R: Files>(
+    alloc: Global,
+    files: &R,
+    path: &str,
+    most: u64,
+) -> Result<Vec<u8>, FileError> {
     let metadata = files.metadata(path)?;
     if !metadata.is_file() {
         return Err(FileError::NotAFile);
+    }
+    if metadata.len() > most {
+        return Err(FileError::TooLarge(most));
     }
     let mut file = File::open(files, path)?;
     let mut bytes = Vec::new(alloc);

@@ -1,4 +1,5 @@
 // Why a file could not be found, read or written.
+use crate::copies::KeptCopy;
 use std::alloc::AllocError;
 use std::io;
 use std::io::ErrorKind;
@@ -25,6 +26,18 @@ pub enum FileError {
     /// Files are opened by names in UTF-8 alone.
     #[error("the name is not UTF-8")]
     NameNotUtf8,
+    /// The name, or the path, is longer than the system allows.
+    #[error("the name is too long")]
+    NameTooLong,
+    /// The file has more than so many bytes, the most that are read.
+    #[error("larger than {0} bytes, the most that is read")]
+    TooLarge(u64),
+    /// A run ended while it wrote the file, and left a copy of what it held.
+    #[error("a run that ended while it wrote the file left what it held in `{0}`: rename that over it, or remove it")]
+    Interrupted(KeptCopy),
+    /// Writing failed, and so did writing what the file held before, of which there is a copy.
+    #[error("writing it failed half-way, and what it held is in `{0}`")]
+    HalfWritten(KeptCopy),
     /// Another failure of the system.
     #[error("{0}")]
     System(ErrorKind),
@@ -43,6 +56,10 @@ impl FileError {
             FileError::NotAFile => "wac::not-a-file",
             FileError::ChangedMeanwhile => "wac::changed-meanwhile",
             FileError::NameNotUtf8 => "wac::name-not-utf-8",
+            FileError::NameTooLong => "wac::name-too-long",
+            FileError::TooLarge(_) => "wac::too-large",
+            FileError::Interrupted(_) => "wac::interrupted",
+            FileError::HalfWritten(_) => "wac::half-written",
             FileError::System(_) => "wac::system",
             FileError::OutOfMemory => "wac::out-of-memory",
         }
@@ -60,6 +77,8 @@ impl From<io::Error> for FileError {
         match error.kind() {
             ErrorKind::NotFound | ErrorKind::NotADirectory => FileError::NotFound,
             ErrorKind::PermissionDenied => FileError::PermissionDenied,
+            // The system calls a name invalid that is too long. That one isn't UTF-8 is found by no call of it.
+            ErrorKind::InvalidFilename if error.raw_os_error().is_some() => FileError::NameTooLong,
             ErrorKind::InvalidFilename => FileError::NameNotUtf8,
             ErrorKind::OutOfMemory => FileError::OutOfMemory,
             kind => FileError::System(kind),

@@ -5,6 +5,7 @@
 //! its n-th call can be made to fail. [`find_files`] lists the files that a command's paths lead to.
 #![tactic(auto)]
 
+mod copies;
 mod disk;
 mod error;
 mod log;
@@ -13,8 +14,9 @@ mod names;
 mod system;
 mod walk;
 
-pub use disk::Disk;
+pub use copies::KeptCopy;
+pub use disk::{Disk, MOST_BYTES};
 pub use error::FileError;
 pub use memory::MemoryFiles;
 pub use system::{FileSystem, Kind};
-pub use walk::{Found, find_files};
+pub use walk::{Found, Listing, find_all, find_files};

@@ -1,6 +1,7 @@
 // Files in memory.
 ghost use Rattle.std.specs.Prelude.{◌≡◌};
 
+use crate::disk::MOST_BYTES;
 use crate::error::FileError;
 use crate::log::{Log, Step};
 use crate::system::{FileSystem, Kind};
@@ -31,6 +32,8 @@ pub struct MemoryFiles {
     entries: Vec<Entry>,
     calls: usize,
     failing: Option<usize>,
+    // The most bytes that a file that is read may have.
+    most: u64,
     log: Log,
 }
 
@@ -41,8 +44,14 @@ impl MemoryFiles {
             entries: Vec::new(alloc),
             calls: 0,
             failing: None,
+            most: MOST_BYTES,
             log: Log::after(&Step::Begins),
         }
+    }
+
+    /// Refuses to read files of more bytes.
+    pub fn limit(&mut self, most: u64) {
+        self.most = most;
     }
 
     /// Lets the call fail that comes after so many others.
@@ -192,6 +201,9 @@ impl FileSystem for MemoryFiles {
         match self.entry(path) {
             Some(entry) => match &entry.node {
                 Node::File(bytes) | Node::ReadOnly(bytes) => {
+                    if bytes.len() as u64 > self.most {
+                        return Err(FileError::TooLarge(self.most));
+                    }
                     Ok(Vec::from_slice(alloc, bytes.as_slice())?)
                 }
                 _ => Err(FileError::NotAFile),

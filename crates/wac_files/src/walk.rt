@@ -14,6 +14,18 @@ pub struct Found {
     pub path: String,
     /// Why no file can be read there.
     pub failure: Option<FileError>,
+    /// Whether it was found in a folder and is a link to a file, which may be anywhere.
+    pub is_link: bool,
+}
+
+/// What paths lead to.
+#[derive(Drop)]
+pub struct Listing {
+    /// The files, in order.
+    pub files: Vec<Found>,
+    /// The paths below folders that are named as WAC files are and lead to none: pipes, sockets, devices and links to
+    /// nothing.
+    pub others: Vec<String>,
 }
 
 /// A path that is not looked at yet.
@@ -25,16 +37,28 @@ struct Pending {
     failure: Option<FileError>,
 }
 
-/// The files that paths lead to.
-///
-/// Given paths are taken in order, whatever their names. A folder stands for the files below it whose names end in
-/// `.wac`, in the order of their names' bytes, those with a name that begins with a dot left out, as are links to
-/// folders, pipes and devices. A file that is reached twice is listed once, for the first path.
+/// The files that paths lead to, as `find_all` has them.
 pub fn find_files<F: FileSystem>(
     alloc: Global,
     files: &mut F,
     paths: &[&str],
 ) -> Result<Vec<Found>, AllocError>
+    ensures { F.replaced files.new ≡ F.replaced files.old }
+{
+    let Listing { files, .. } = find_all(alloc, files, paths)?;
+    Ok(files)
+}
+
+/// What paths lead to.
+///
+/// Given paths are taken in order, whatever their names. A folder stands for the files below it whose names end in
+/// `.wac`, in the order of their names' bytes, those with a name that begins with a dot left out, as are links to
+/// folders, pipes and devices. A file that is reached twice is listed once, for the first path.
+pub fn find_all<F: FileSystem>(
+    alloc: Global,
+    files: &mut F,
+    paths: &[&str],
+) -> Result<Listing, AllocError>
     ensures { F.replaced files.new ≡ F.replaced files.old }
 {
     let mut walk = Walk::new(alloc);
@@ -47,8 +71,11 @@ pub fn find_files<F: FileSystem>(
             break;
         }
     }
-    let Walk { found, .. } = walk;
-    Ok(found)
+    let Walk { found, others, .. } = walk;
+    Ok(Listing {
+        files: found,
+        others,
+    })
 }
 
 /// A walk over paths and folders.
@@ -57,6 +84,7 @@ struct Walk {
     // What is to be looked at, the next one last.
     pending: Vec<Pending>,
     found: Vec<Found>,
+    others: Vec<String>,
     // The resolved paths of what was found.
     seen: BTreeSet<String>,
 }
@@ -66,6 +94,7 @@ impl Walk {
         Walk {
             pending: Vec::new(alloc),
             found: Vec::new(alloc),
+            others: Vec::new(alloc),
             seen: BTreeSet::new(alloc),
         }
     }
@@ -101,7 +130,8 @@ impl Walk {
             return Ok(true);
         }
         match kind_of(files, path.as_str(), is_given) {
-            Ok(Some(Kind::File)) => self.file(alloc, files, path)?,
+            Ok(Some(Kind::File)) => self.file(alloc, files, path, false)?,
+            Ok(Some(Kind::Link)) => self.file(alloc, files, path, true)?,
             Ok(Some(Kind::Folder)) => self.folder(alloc, files, path)?,
             Ok(Some(_)) => self.fail(path, FileError::NotAFile)?,
             Ok(None) => {}
@@ -119,6 +149,7 @@ impl Walk {
         self.found.push(Found {
             path,
             failure: Some(failure),
+            is_link: false,
         })?;
         Ok(())
     }
@@ -129,6 +160,7 @@ impl Walk {
         alloc: Global,
         files: &mut F,
         path: String,
+        is_link: bool,
     ) -> Result<(), AllocError>
         ensures { F.replaced files.new ≡ F.replaced files.old }
     {
@@ -143,6 +175,7 @@ impl Walk {
         self.found.push(Found {
             path,
             failure: None,
+            is_link,
         })?;
         Ok(())
     }
@@ -201,7 +234,7 @@ fn kind_of<F: FileSystem>(
         Kind::Folder => Ok(Some(Kind::Folder)),
         Kind::File if is_wac(path.as_bytes()) => Ok(Some(Kind::File)),
         Kind::Link if is_wac(path.as_bytes()) => match files.target(path)? {
-            Kind::File => Ok(Some(Kind::File)),
+            Kind::File => Ok(Some(Kind::Link)),
             _ => Ok(None),
         },
         _ => Ok(None),

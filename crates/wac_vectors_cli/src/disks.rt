@@ -3,7 +3,7 @@ use crate::failing::{Calls, Failing};
 use std::os::unix::fs::{PermissionsExt, symlink};
 use std::test::Fail;
 use std::{env, fs, process};
-use wac_files::{Disk, FileError, FileSystem};
+use wac_files::{Disk, FileError, FileSystem, MOST_BYTES};
 
 const OLD: &[u8] = b"package  a:b;\n";
 
@@ -26,7 +26,7 @@ fn remove(rt: &HostRuntime, folder: &str) -> Result<(), Fail> {
 
 /// How many names a folder has.
 fn count(rt: &HostRuntime, folder: &str) -> Result<usize, Fail> {
-    let mut disk = Disk::new(*rt, 0);
+    let mut disk = Disk::new(*rt, 0, MOST_BYTES);
     Ok(disk.list(rt.alloc(), folder)?.len())
 }
 
@@ -36,7 +36,7 @@ fn files_are_replaced(rt: HostRuntime) -> Result<(), Fail> {
     let path = format!(in rt.alloc(); "{folder}/a.wac")?;
     fs::write(&rt, path.as_str(), OLD)?;
     fs::set_permissions(&rt, path.as_str(), fs::Permissions::from_mode(0o666))?;
-    let mut disk = Disk::new(rt, 1);
+    let mut disk = Disk::new(rt, 1, MOST_BYTES);
     disk.replace(rt.alloc(), path.as_str(), OLD, NEW)?;
     assert_eq!(rt; fs::read(&rt, path.as_str())?.as_slice(), NEW);
     let mode = fs::metadata(&rt, path.as_str())?.permissions().mode();
@@ -53,7 +53,7 @@ fn read_only_files_are_not_replaced(rt: HostRuntime) -> Result<(), Fail> {
     let path = format!(in rt.alloc(); "{folder}/a.wac")?;
     fs::write(&rt, path.as_str(), OLD)?;
     fs::set_permissions(&rt, path.as_str(), fs::Permissions::from_mode(0o444))?;
-    let mut disk = Disk::new(rt, 1);
+    let mut disk = Disk::new(rt, 1, MOST_BYTES);
     let replaced = disk.replace(rt.alloc(), path.as_str(), OLD, NEW);
     assert_eq!(rt; replaced, Err(FileError::ReadOnly));
     assert_eq!(rt; fs::read(&rt, path.as_str())?.as_slice(), OLD);
@@ -67,7 +67,7 @@ fn the_target_of_a_link_is_written(rt: HostRuntime) -> Result<(), Fail> {
     let link = format!(in rt.alloc(); "{folder}/b.wac")?;
     fs::write(&rt, path.as_str(), OLD)?;
     symlink(&rt, "a.wac", link.as_str())?;
-    let mut disk = Disk::new(rt, 1);
+    let mut disk = Disk::new(rt, 1, MOST_BYTES);
     disk.replace(rt.alloc(), link.as_str(), OLD, NEW)?;
     assert_eq!(rt; fs::read(&rt, path.as_str())?.as_slice(), NEW);
     assert!(rt; fs::symlink_metadata(&rt, link.as_str())?.is_symlink());
@@ -95,7 +95,7 @@ fn replace_failing(rt: &HostRuntime, folder: &str, failing: usize) -> Result<Aft
             files: *rt,
             calls: &calls,
         };
-        let mut disk = Disk::new(files, 1);
+        let mut disk = Disk::new(files, 1, MOST_BYTES);
         disk.replace(rt.alloc(), path.as_str(), OLD, NEW)
     };
     let held = fs::read(rt, path.as_str())?;

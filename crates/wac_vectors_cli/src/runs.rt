@@ -3,9 +3,9 @@ use std::alloc::Global;
 use std::process::Abort;
 use std::test::Fail;
 use wac_cli::{FormatOptions, LineEnds, format_input, format_paths};
-use wac_cli_console::{Action, Console};
+use wac_cli_console::{Action, Console, InputOptions};
 use wac_comments::Indent;
-use wac_files::MemoryFiles;
+use wac_files::{MOST_BYTES, MemoryFiles};
 
 /// What a run returned and wrote.
 #[derive(Drop)]
@@ -54,9 +54,13 @@ pub(crate) fn format_text(
     let mut output = Vec::new(alloc);
     let mut errors = Vec::new(alloc);
     let mut input = text.as_bytes();
+    let reading = InputOptions {
+        name,
+        most: MOST_BYTES,
+    };
     let status = {
         let mut console = Console::new(&mut output, &mut errors, false, false);
-        format_input(alloc, &mut input, &mut console, options, name).code()
+        format_input(alloc, &mut input, &mut console, options, reading).code()
     };
     Run {
         status,

@@ -6,12 +6,12 @@ use std::io::{IsTerminal, Stderr, Stdout};
 use std::process::ExitCode;
 use std::{env, process};
 use wac_cli::{check_input, check_paths, format_input, format_paths};
-use wac_cli_console::{Console, Report, Status};
+use wac_cli_console::{Console, InputOptions, Report, Status};
 use wac_cli_packages::{
     Given, GraphRequest, PackageForm, PackageRequest, TargetRequest, check_target,
     check_with_packages, list_packages, show_graph, show_graph_with_packages, show_package,
 };
-use wac_files::Disk;
+use wac_files::{Disk, MOST_BYTES};
 
 /// Does a task with the files and streams of the process.
 pub(crate) fn perform(rt: &HostRuntime, task: &Task<'_>, words: &Words) -> ExitCode {
@@ -26,19 +26,24 @@ pub(crate) fn perform(rt: &HostRuntime, task: &Task<'_>, words: &Words) -> ExitC
 /// Where a task writes.
 fn console_of(rt: &HostRuntime, task: &Task<'_>) -> Console<Stdout, Stderr> {
     let color = is_colored(rt, task.color);
-    Console::new(rt.stdout(), rt.stderr(), color, task.quiet)
+    let mut console = Console::new(rt.stdout(), rt.stderr(), color, task.quiet);
+    console.set_on_terminal(rt.stdout().is_terminal());
+    console
 }
 
 /// Does a task with standard input.
 fn perform_on_input(rt: &HostRuntime, task: &Task<'_>) -> Status {
     let mut console = console_of(rt, task);
     let mut input = rt.stdin();
-    let name = task.input_name;
+    let reading = InputOptions {
+        name: task.input_name,
+        most: MOST_BYTES,
+    };
     match task.work {
         Work::Format(options) => {
-            format_input(rt.alloc(), &mut input, &mut console, options, name)
+            format_input(rt.alloc(), &mut input, &mut console, options, reading)
         }
-        Work::Check(report) => check_input(rt.alloc(), &mut input, &mut console, report, name),
+        Work::Check(report) => check_input(rt.alloc(), &mut input, &mut console, report, reading),
         // The words of the command line allow no standard input here.
         Work::Packages | Work::Graph(_) | Work::Package(_) | Work::Targets(_) => Status::Wrong,
     }
@@ -47,7 +52,7 @@ fn perform_on_input(rt: &HostRuntime, task: &Task<'_>) -> Status {
 /// Does a task with files.
 fn perform_on_files(rt: &HostRuntime, task: &Task<'_>) -> Status {
     let mut console = console_of(rt, task);
-    let mut files = Disk::new(*rt, process::id(rt.process()));
+    let mut files = Disk::new(*rt, process::id(rt.process()), MOST_BYTES);
     let paths = task.paths.as_slice();
     let first = path_at(paths, 0);
     match task.work {
