@@ -97,7 +97,7 @@ impl<'a> Places<'a> {
         let start = at.saturating_sub(1);
         let end = at.saturating_add(1);
         match self.text.as_bytes().get(start..end) {
-            Some(b"\r\n") => start,
+            Some(around) if around == b"\r\n".as_slice() => start,
             _ => at,
         }
     }

@@ -2,7 +2,7 @@
 use crate::components::ShownPackage;
 use crate::contents::ComponentPackage;
 use crate::sources::Source;
-use crate::workspace::Workspace;
+use crate::roots::Seen;
 use wac_graph::PackageKey;
 
 /// A text that declares a package.
@@ -43,11 +43,11 @@ fn shown_own<'w>(components: &'w [ComponentPackage], key: &PackageKey) -> Option
     None
 }
 
-impl Workspace {
+impl<'w> Seen<'w> {
     /// The text that declares a package: that of its document, or what is shown of a component: of the one of this name,
     /// which mentions the package, and else of the package's own.
-    pub(crate) fn declaring<'w>(
-        &'w self,
+    pub(crate) fn declaring(
+        self,
         key: &PackageKey,
         owner: Option<&str>,
     ) -> Option<Declaring<'w>> {
