@@ -1,5 +1,6 @@
 -- Texts within commands of a GitHub workflow.
 use Rattle.std.specs.Prelude.{◌≡◌, refl, ℕ, List, Option, Some, None, nat_eq, codes, chars, encode_utf8, flat_map, unwrap_or, if◌then◌else◌}
+use Rattle.wac_excerpts.specs.Characters.{shown}
 
 -- what a character is written as within the text of a command, where not as itself: `%`, CR and LF
 abbrev pub data_escape : ℕ → Option (List ℕ)
@@ -9,9 +10,9 @@ data_escape c = if nat_eq c 37 then Some (codes "%25") else (if nat_eq c 13 then
 abbrev pub property_escape : ℕ → Option (List ℕ)
 property_escape c = if nat_eq c 58 then Some (codes "%3A") else (if nat_eq c 44 then Some (codes "%2C") else data_escape c)
 
--- a character, or what it is written as
+-- what a character is written as: its escape, or as people are shown it
 abbrev pub escaped : Option (List ℕ) → ℕ → List ℕ
-escaped escape c = unwrap_or escape (encode_utf8 c)
+escaped escape c = unwrap_or escape (encode_utf8 (shown c))
 
 abbrev pub data_character : ℕ → List ℕ
 data_character c = escaped (data_escape c) c
@@ -28,3 +29,6 @@ property_text text = flat_map property_character (chars text)
 
 a_colon_ends_no_property : flat_map property_character (codes ":,%") ≡ codes "%3A%2C%25"
 a_colon_ends_no_property = refl
+
+an_escape_is_not_written : data_character 27 ≡ encode_utf8 65533
+an_escape_is_not_written = refl

@@ -6,6 +6,7 @@ use crate::diagnostic::{Diagnostic, Note};
 use crate::places::Extent;
 use crate::readable::readable;
 use std::alloc::{AllocError, Global};
+use wac_excerpts::shown;
 use wac_lexer::SourceSpan;
 use wac_positions::Lines;
 
@@ -16,8 +17,8 @@ use wac_positions::Lines;
 /// ```
 ///
 /// Lines and columns are counted from 1, and columns in characters; `endColumn` is after the last character. Without a
-/// place there is neither line nor column. What can be done and the other places follow in lines of the message. The
-/// error is that memory ran out.
+/// place there is neither line nor column. What can be done and the other places follow in lines of the message. What a
+/// terminal could take for a command is U+FFFD, but CR and LF are escaped. The error is that memory ran out.
 pub fn github(
     alloc: Global,
     file: &str,
@@ -109,13 +110,13 @@ fn property_escape(c: char) -> Option<&'static str>
     }
 }
 
-/// Appends what a character is written as.
+/// Appends what a character is written as: where it has no escape, as people are shown it.
 fn push_escaped(out: &mut String, escape: Option<&'static str>, c: char) -> Result<(), AllocError>
     ensures { OnOk result (string_bytes out.new ≡ string_bytes out.old ++ escaped (option_copied escape.entry) c) }
 {
     match escape {
         Some(escape) => out.push_str(escape),
-        None => out.push(c),
+        None => out.push(shown(c)),
     }
 }
 

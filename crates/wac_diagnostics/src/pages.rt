@@ -25,8 +25,8 @@ struct Page<'p, 'a> {
 /// ```
 ///
 /// `text` is what the file holds, also where it isn't UTF-8. Lines and columns are counted from 1, and columns in
-/// characters. Without a place there is neither line nor column. Control characters and bidirectional overrides are
-/// shown as U+FFFD. The error is that memory ran out.
+/// characters. Without a place there is neither line nor column. What a terminal could take for a command is shown as
+/// U+FFFD. The error is that memory ran out.
 pub fn human(
     alloc: Global,
     file: &str,

@@ -1,14 +1,19 @@
 -- Characters as a terminal shows them.
-use Rattle.std.specs.Prelude.{ℕ, List, Bool, ◌&&◌, ◌||◌, false, nat_eq, nat_lt, nat_le, map, chars, encode_utf8_all, unwrap_or, if◌then◌else◌}
+use Rattle.std.specs.Prelude.{ℕ, List, [], ◌++◌, ◌-◌, ◌^◌, Bool, ◌&&◌, ◌||◌, false, nat_eq, nat_lt, nat_le, map, flat_map, codes, chars, encode_utf8, encode_utf8_all, unwrap_or, if◌then◌else◌}
+use Rattle.std.specs.Fmt.{digits, format_spec, padded_integral}
 use Rattle.unicode_width.specs.Width.{char_width}
 
--- one that overrides the direction of a text
+-- a separator of lines or paragraphs, or one that embeds or overrides a direction
 abbrev pub is_override : ℕ → Bool
-is_override c = (nat_le 8234 c && nat_le c 8238) || (nat_le 8294 c && nat_le c 8297)
+is_override c = (nat_le 8232 c && nat_le c 8238) || (nat_le 8294 c && nat_le c 8297)
 
--- a control character, an override, or a byte order mark: a terminal could take it for a command, or show nothing of it
+-- a mark of which nothing is shown: of a direction, or of the order of bytes
+abbrev pub is_mark : ℕ → Bool
+is_mark c = nat_eq c 1564 || ((nat_le 8206 c && nat_le c 8207) || nat_eq c 65279)
+
+-- a control character, an override or a mark: a terminal could take it for a command, or show nothing of it
 abbrev pub is_command : ℕ → Bool
-is_command c = nat_lt c 32 || ((nat_le 127 c && nat_le c 159) || (is_override c || nat_eq c 65279))
+is_command c = nat_lt c 32 || ((nat_le 127 c && nat_le c 159) || (is_override c || is_mark c))
 
 -- what is written for a character: U+FFFD for a command
 abbrev pub shown : ℕ → ℕ
@@ -17,6 +22,20 @@ shown c = if is_command c then 65533 else c
 -- a text without commands
 abbrev pub shown_text : List ℕ → List ℕ
 shown_text text = encode_utf8_all (map shown (chars text))
+
+-- the same of several lines, whose ends stay
+abbrev pub shown_on_lines : ℕ → ℕ
+shown_on_lines c = if nat_eq c 10 then c else shown c
+
+abbrev pub shown_lines : List ℕ → List ℕ
+shown_lines text = encode_utf8_all (map shown_on_lines (chars text))
+
+-- what stands for a character in JSON: for a command `\u` and the four hexadecimal digits of its number
+abbrev pub escaped_character : ℕ → List ℕ
+escaped_character c = if is_command c then (codes "\\u" ++ padded_integral (format_spec 32 0 4 4 (2 ^ 64 - 1)) false [] (digits 16 false c)) else encode_utf8 c
+
+abbrev pub escaped_text : List ℕ → List ℕ
+escaped_text text = flat_map escaped_character (chars text)
 
 -- how many columns a character takes; a tab takes those of four blanks
 abbrev pub columns : ℕ → ℕ

@@ -7,6 +7,6 @@ mod marked;
 mod region;
 mod window;
 
-pub use characters::push_shown;
+pub use characters::{is_command, push_carets, push_escaped, push_shown, push_shown_lines, shown};
 pub use gutter::Paint;
 pub use region::excerpt;

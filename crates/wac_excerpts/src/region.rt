@@ -29,9 +29,9 @@ struct Region<'l, 'a> {
 /// ```
 ///
 /// Each line of the result ends with LF, and takes at most 200 columns of a terminal; a longer one is cut around the
-/// marks, with `…` for each part that is left out. A tab is shown as four blanks, and control characters,
-/// bidirectional overrides and byte order marks as U+FFFD. Of more than six lines the first three and the last two are
-/// shown. There is at least one mark, also for no bytes and at the end of the text.
+/// marks, with `…` for each part that is left out. A tab is shown as four blanks, and any other command to a terminal as
+/// U+FFFD. Of more than six lines the first three and the last two are shown. There is at least one mark, also for no
+/// bytes and at the end of the text.
 pub fn excerpt(
     alloc: Global,
     lines: &Lines<'_>,

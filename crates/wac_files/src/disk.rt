@@ -1,27 +1,32 @@
 // The files of the system.
 ghost use Rattle.std.specs.Prelude.{◌≡◌};
 
+use crate::copies::{KeptCopy, Temporary, may_be_cut_off};
 use crate::error::FileError;
 use crate::log::{Log, Step};
-use crate::names::folder_of;
+use crate::names::{folder_of, plain};
+use crate::rewriting::{PRIVATE, Rewrite, read_open, test_mode};
+use crate::sweeping::Sweep;
 use crate::system::{FileSystem, Kind};
 use std::alloc::{AllocError, Global};
 use std::fs::{File, Files, Metadata, OpenFile, OpenOptions};
 use std::io::{ErrorKind, Read, Write};
-use std::os::unix::fs::{MetadataExt, OpenOptionsExt, PermissionsExt};
-use std::{fs, io};
+use std::os::unix::fs::{MetadataExt, OpenOptionsExt};
 
 /// The most bytes that a file that is read may have, where no other number is asked for: 64 MiB.
 pub const MOST_BYTES: u64 = 64 * 1024 * 1024;
 
-// How many names are tried for a temporary file.
+// Where the system shows its processes.
+const PROCESSES: &str = "/proc";
+
+// How many names are tried for a copy.
 const MOST_NAMES: u32 = 1000;
 
 /// The files of the system.
 ///
-/// A file is written beside its place, into a temporary file whose name begins with `.wacx-`, and has its mode, and its
-/// owner and group where that is allowed. When all of it is on the disk, it is renamed over the old file. Where a step
-/// fails, the temporary file is removed.
+/// A file is written in place, so it keeps its mode, its owner and group, its links and all else that the system has of
+/// it. Before that a copy of what it holds is written beside it, under a name that begins with `.wacx-`. The copy is
+/// removed when the new text is on the disk, or where a step fails, when the old one is there again.
 #[derive(Drop)]
 pub struct Disk<R: Files + Drop> {
     files: R,
@@ -29,8 +34,10 @@ pub struct Disk<R: Files + Drop> {
     run: u32,
     // The most bytes that a file that is read may have.
     most: u64,
-    // How many temporary files were named.
-    named: u32,
+    // The devices of the files in which the system shows its own state.
+    devices: [Option<u64>; 2],
+    // What was found of runs that ended, once it was asked for.
+    sweep: Option<Sweep>,
     log: Log,
 }
 
@@ -38,86 +45,59 @@ impl<R: Files + Drop> Disk<R> {
     /// The files that `files` reaches. `run` is a number that no other run has at the same time, as that of the process. A
     /// file of more than `most` bytes isn't read.
     pub fn new(files: R, run: u32, most: u64) -> Self {
+        let devices = [device_of(&files, PROCESSES), device_of(&files, "/sys")];
         Disk {
             files,
             run,
             most,
-            named: 0,
+            devices,
+            sweep: None,
             log: Log::after(&Step::Begins),
         }
     }
 
-    /// Creates a new file in a folder, and returns it with its path.
-    fn create_in(&mut self, alloc: Global, folder: &str) -> Result<(String, R::File), FileError>
-        ensures { self.new.log.replaced ≡ self.old.log.replaced }
-    {
-        let mut options = OpenOptions::new();
-        options.write(true).create_new(true).mode(0o600);
-        for _ in 0..MOST_NAMES {
-            let run = self.run;
-            let count = self.named;
-            self.named = self.named.wrapping_add(1);
-            let path = format!(in alloc; "{folder}.wacx-{run}-{count}.tmp")?;
-            match options.open(&self.files, path.as_str()) {
-                Ok(file) => return Ok((path, file)),
-                Err(error) if error.kind() == ErrorKind::AlreadyExists => {}
-                Err(error) => return Err(FileError::from(error)),
-            }
+    /// What a file is by its metadata. One in which the system shows its own state is taken for a device: reading it may
+    /// never end.
+    fn kind_of(&self, metadata: &Metadata) -> Kind {
+        if metadata.is_dir() {
+            Kind::Folder
+        } else if metadata.is_symlink() {
+            Kind::Link
+        } else if metadata.is_file() && !self.devices.contains(&Some(metadata.dev())) {
+            Kind::File
+        } else {
+            Kind::Other
         }
-        Err(FileError::System(ErrorKind::AlreadyExists))
     }
 
-    /// Writes a text to a new file, with the mode and, where that is allowed, the owner and group of another.
-    fn fill(
-        &self,
-        path: &str,
-        mut file: R::File,
-        like: &Metadata,
-        text: &[u8],
-    ) -> Result<(), FileError> {
-        file.write_all(text)?;
-        // Without leave to give the file to its owner, it stays ours.
-        let _ = self.files.lchown(path, Some(like.uid()), Some(like.gid()));
-        file.set_permissions(fs::Permissions::from_mode(like.mode()))?;
-        file.sync_all()?;
+    /// Fails where metadata are not those of a regular file.
+    fn test_file(&self, metadata: &Metadata) -> Result<(), FileError> {
+        match self.kind_of(metadata) {
+            Kind::File => Ok(()),
+            Kind::Folder | Kind::Link | Kind::Other => Err(FileError::NotAFile),
+        }
+    }
+
+    /// Fails where metadata are not those of a regular file that is small enough to be read.
+    fn test_readable(&self, metadata: &Metadata) -> Result<(), FileError> {
+        self.test_file(metadata)?;
+        if metadata.len() > self.most {
+            return Err(FileError::TooLarge(self.most));
+        }
         Ok(())
     }
 
-    /// Renames a file over another, if that one holds these bytes.
-    fn put(&self, alloc: Global, from: &str, to: &str, held: &[u8]) -> Result<(), FileError> {
-        let now = read_file(alloc, &self.files, to, self.most)?;
-        if now.as_slice() != held {
-            return Err(FileError::ChangedMeanwhile);
-        }
-        self.files.rename(from, to)?;
-        Ok(())
+    /// All bytes of a regular file. Nothing else is opened.
+    fn read_file(&self, alloc: Global, path: &str) -> Result<Vec<u8>, FileError> {
+        self.test_readable(&self.files.metadata(path)?)?;
+        let mut file = File::open(&self.files, path)?;
+        let metadata = file.metadata()?;
+        self.test_readable(&metadata)?;
+        read_open(alloc, &mut file, metadata.len())
     }
 
-    /// Fails where a file may not be written.
-    fn test_writable(&self, path: &str, metadata: &Metadata) -> Result<(), FileError> {
-        if metadata.permissions().readonly() {
-            return Err(FileError::ReadOnly);
-        }
-        match OpenOptions::new().write(true).open(&self.files, path) {
-            Ok(_) => Ok(()),
-            Err(error) if error.kind() == ErrorKind::PermissionDenied => Err(FileError::ReadOnly),
-            Err(error) => Err(FileError::from(error)),
-        }
-    }
-}
-
-impl<R: Files + Drop> FileSystem for Disk<R> {
-    ghost replaced = { λ disk. disk.log.replaced };
-
-    fn kind(&mut self, path: &str) -> Result<Kind, FileError> {
-        Ok(kind_of(&self.files.symlink_metadata(path)?))
-    }
-
-    fn target(&mut self, path: &str) -> Result<Kind, FileError> {
-        Ok(kind_of(&self.files.metadata(path)?))
-    }
-
-    fn list(&mut self, alloc: Global, path: &str) -> Result<Vec<Vec<u8>>, FileError> {
+    /// The names in a folder.
+    fn names_in(&self, alloc: Global, path: &str) -> Result<Vec<Vec<u8>>, FileError> {
         let mut with_slash = String::from_str(alloc, path)?;
         if !path.ends_with('/') {
             with_slash.push('/')?;
@@ -127,13 +107,264 @@ impl<R: Files + Drop> FileSystem for Disk<R> {
         Ok(split_names(alloc, listed.as_slice())?)
     }
 
+    /// The path without links that leads where a path leads. Where it isn't UTF-8, the path itself.
+    fn place_of(&self, alloc: Global, path: &str) -> Result<String, FileError> {
+        match self.files.canonicalize(alloc, path) {
+            Ok(resolved) => Ok(String::from_str(alloc, resolved.as_str())?),
+            Err(error) if error.kind() == ErrorKind::InvalidFilename => {
+                self.files.metadata(path)?;
+                Ok(plain(alloc, path)?)
+            }
+            Err(error) => Err(FileError::from(error)),
+        }
+    }
+
+    /// Opens a regular file that may be written.
+    fn open_to_write(&self, path: &str) -> Result<R::File, FileError> {
+        let metadata = self.files.metadata(path)?;
+        self.test_file(&metadata)?;
+        if metadata.permissions().readonly() {
+            return Err(FileError::ReadOnly);
+        }
+        let mut options = OpenOptions::new();
+        options.read(true).write(true);
+        match options.open(&self.files, path) {
+            Ok(file) => Ok(file),
+            Err(error) if error.kind() == ErrorKind::PermissionDenied => Err(FileError::ReadOnly),
+            Err(error) => Err(FileError::from(error)),
+        }
+    }
+
+    /// Fails where an open file doesn't hold these bytes.
+    fn test_held(&self, alloc: Global, file: &mut R::File, held: &[u8]) -> Result<(), FileError> {
+        let metadata = file.metadata()?;
+        self.test_file(&metadata)?;
+        let len = held.len() as u64;
+        if metadata.len() != len || read_open(alloc, file, len)?.as_slice() != held {
+            return Err(FileError::ChangedMeanwhile);
+        }
+        Ok(())
+    }
+
+    /// Creates a file for a copy of another, whose number is given, and returns it.
+    fn create_in(
+        &self,
+        alloc: Global,
+        folder: &str,
+        inode: u64,
+    ) -> Result<(KeptCopy, R::File), FileError> {
+        let mut options = OpenOptions::new();
+        options.write(true).create_new(true).mode(PRIVATE);
+        for count in 0..MOST_NAMES {
+            let run = self.run;
+            let copy = KeptCopy { run, inode, count };
+            let path = format!(in alloc; "{folder}{copy}")?;
+            match options.open(&self.files, path.as_str()) {
+                Ok(file) => return Ok((copy, file)),
+                Err(error) if error.kind() == ErrorKind::AlreadyExists => {}
+                Err(error) => return Err(FileError::from(error)),
+            }
+        }
+        Err(FileError::System(ErrorKind::AlreadyExists))
+    }
+
+    /// Removes a copy. Where that fails it stays, and a later run removes it.
+    fn remove(&self, alloc: Global, folder: &str, copy: KeptCopy) -> Result<(), FileError> {
+        let path = format!(in alloc; "{folder}{copy}")?;
+        let _ = self.files.remove_file(path.as_str());
+        Ok(())
+    }
+
+    /// Writes a copy of what an open file in a folder holds.
+    fn keep(
+        &self,
+        alloc: Global,
+        folder: &str,
+        file: &R::File,
+        held: &[u8],
+    ) -> Result<KeptCopy, FileError> {
+        let metadata = file.metadata()?;
+        let (copy, mut new) = self.create_in(alloc, folder, metadata.ino())?;
+        let kept = match test_mode(file, &new, &metadata) {
+            Ok(()) => fill(&mut new, held),
+            Err(error) => Err(error),
+        };
+        if let Err(error) = kept {
+            self.remove(alloc, folder, copy)?;
+            return Err(error);
+        }
+        Ok(copy)
+    }
+
+    /// Has an open file in a folder, which holds these bytes, hold others in their place.
+    fn write_in(
+        &self,
+        alloc: Global,
+        folder: &str,
+        file: &mut R::File,
+        held: &[u8],
+        rewrite: &Rewrite,
+    ) -> Result<(), FileError> {
+        let copy = self.keep(alloc, folder, file, held)?;
+        let written = rewrite.write(file);
+        if written.is_err() && rewrite.undo(file, held).is_err() {
+            return Err(FileError::HalfWritten(copy));
+        }
+        self.remove(alloc, folder, copy)?;
+        Ok(written?)
+    }
+
+    /// Whether a run goes on. One of this number that isn't this one has ended.
+    fn is_running(&self, alloc: Global, run: u32) -> Result<bool, AllocError> {
+        if run == self.run {
+            return Ok(false);
+        }
+        let path = format!(in alloc; "{PROCESSES}/{run}")?;
+        match self.files.symlink_metadata(path.as_str()) {
+            Err(error) => Ok(error.kind() != ErrorKind::NotFound),
+            Ok(_) => Ok(true),
+        }
+    }
+
+    /// Removes what runs that ended left in a folder, but for the copies that may have what a file lost.
+    fn sweep_folder(
+        &self,
+        alloc: Global,
+        folder: &str,
+        sweep: &mut Sweep,
+    ) -> Result<(), FileError> {
+        let place = if folder.is_empty() { "." } else { folder };
+        let names = match self.names_in(alloc, place) {
+            Ok(names) => names,
+            Err(FileError::OutOfMemory) => return Err(FileError::OutOfMemory),
+            // Who may not list a folder may still write its files.
+            Err(_) => return Ok(()),
+        };
+        for name in names.as_slice() {
+            if let Some(copy) = self.clear(alloc, folder, name.as_slice(), names.as_slice())? {
+                sweep.add(alloc, folder, copy)?;
+            }
+        }
+        Ok(())
+    }
+
+    /// Removes a file of a folder that a run which ended left there. Returns the copy that may have what a file lost.
+    fn clear(
+        &self,
+        alloc: Global,
+        folder: &str,
+        name: &[u8],
+        names: &[Vec<u8>],
+    ) -> Result<Option<KeptCopy>, FileError> {
+        let Some(temporary) = Temporary::of_name(name) else {
+            return Ok(None);
+        };
+        if self.is_running(alloc, temporary.run())? {
+            return Ok(None);
+        }
+        let path = path_in(alloc, folder, name)?;
+        if !self.is_file(path.as_str(), None) {
+            return Ok(None);
+        }
+        if let Temporary::Copy(copy) = temporary {
+            if let Some(file) = self.file_of(alloc, folder, copy.inode, names)? {
+                match self.may_be_needed(alloc, path.as_str(), file.as_str()) {
+                    Ok(true) => return Ok(Some(copy)),
+                    Ok(false) => {}
+                    Err(FileError::OutOfMemory) => return Err(FileError::OutOfMemory),
+                    // What can't be compared stays.
+                    Err(_) => return Ok(None),
+                }
+            }
+        }
+        let _ = self.files.remove_file(path.as_str());
+        Ok(None)
+    }
+
+    /// Whether a regular file is at a path, of this number if there is one. A link is not followed.
+    fn is_file(&self, path: &str, inode: Option<u64>) -> bool {
+        match self.files.symlink_metadata(path) {
+            Ok(metadata) => {
+                metadata.is_file() && inode.is_none_or(|inode| inode == metadata.ino())
+            }
+            Err(_) => false,
+        }
+    }
+
+    /// The path of the file of a folder that has this number.
+    fn file_of(
+        &self,
+        alloc: Global,
+        folder: &str,
+        inode: u64,
+        names: &[Vec<u8>],
+    ) -> Result<Option<String>, AllocError> {
+        for name in names {
+            let path = path_in(alloc, folder, name.as_slice())?;
+            if self.is_file(path.as_str(), Some(inode)) {
+                return Ok(Some(path));
+            }
+        }
+        Ok(None)
+    }
+
+    /// Whether a copy may have what a file lost.
+    fn may_be_needed(&self, alloc: Global, copy: &str, file: &str) -> Result<bool, FileError> {
+        let held = self.read_file(alloc, copy)?;
+        let now = self.read_file(alloc, file)?;
+        Ok(may_be_cut_off(held.as_slice(), now.as_slice()))
+    }
+
+    /// Fails where a run ended while it wrote the file at a path, and removes what runs that ended left in its folder.
+    fn sweep_for(&self, alloc: Global, place: &str, sweep: &mut Sweep) -> Result<(), FileError> {
+        let folder = folder_of(place);
+        if sweep.enter(alloc, folder)? {
+            self.sweep_folder(alloc, folder, sweep)?;
+        }
+        let inode = self.files.metadata(place)?.ino();
+        match sweep.copy_of(folder, inode) {
+            Some(copy) => Err(FileError::Interrupted(copy)),
+            None => Ok(()),
+        }
+    }
+}
+
+impl<R: Files + Drop> FileSystem for Disk<R> {
+    ghost replaced = { λ disk. disk.log.replaced };
+
+    fn kind(&mut self, path: &str) -> Result<Kind, FileError> {
+        Ok(self.kind_of(&self.files.symlink_metadata(path)?))
+    }
+
+    fn target(&mut self, path: &str) -> Result<Kind, FileError> {
+        Ok(self.kind_of(&self.files.metadata(path)?))
+    }
+
+    fn list(&mut self, alloc: Global, path: &str) -> Result<Vec<Vec<u8>>, FileError> {
+        self.names_in(alloc, path)
+    }
+
     fn resolve(&mut self, alloc: Global, path: &str) -> Result<String, FileError> {
-        let resolved = self.files.canonicalize(alloc, path)?;
-        Ok(String::from_str(alloc, resolved.as_str())?)
+        self.place_of(alloc, path)
     }
 
     fn read(&mut self, alloc: Global, path: &str) -> Result<Vec<u8>, FileError> {
-        Ok(read_file(alloc, &self.files, path, self.most)?)
+        self.read_file(alloc, path)
+    }
+
+    fn sweep(&mut self, alloc: Global, path: &str) -> Result<(), FileError> {
+        // Which runs go on is known where the system shows its processes.
+        if self.devices[0].is_none() {
+            return Ok(());
+        }
+        let place = self.place_of(alloc, path)?;
+        let mut sweep = match self.sweep.take() {
+            Some(sweep) => sweep,
+            None => Sweep::new(alloc),
+        };
+        let swept = self.sweep_for(alloc, place.as_str(), &mut sweep);
+        self.sweep = Some(sweep);
+        swept
     }
 
     fn replace(
@@ -143,58 +374,36 @@ impl<R: Files + Drop> FileSystem for Disk<R> {
         held: &[u8],
         text: &[u8],
     ) -> Result<(), FileError> {
-        let place = self.resolve(alloc, path)?;
-        let metadata = self.files.metadata(place.as_str())?;
-        self.test_writable(place.as_str(), &metadata)?;
-        let (new, file) = self.create_in(alloc, folder_of(place.as_str()))?;
-        let filled = self.fill(new.as_str(), file, &metadata, text);
-        let done = match filled {
-            Ok(()) => self.put(alloc, new.as_str(), place.as_str(), held),
-            Err(error) => Err(error),
-        };
-        if let Err(error) = done {
-            let _ = self.files.remove_file(new.as_str());
-            return Err(error);
-        }
+        let place = self.place_of(alloc, path)?;
+        let mut file = self.open_to_write(place.as_str())?;
+        self.test_held(alloc, &mut file, held)?;
+        let rewrite = Rewrite::new(alloc, file.metadata()?.mode(), held, text)?;
+        self.write_in(alloc, folder_of(place.as_str()), &mut file, held, &rewrite)?;
         self.log = Log::after(&Step::Replaces(&self.log, path, held, text));
         Ok(())
     }
 }
 
-/// What a file is by its metadata.
-fn kind_of(metadata: &Metadata) -> Kind {
-    if metadata.is_file() {
-        Kind::File
-    } else if metadata.is_dir() {
-        Kind::Folder
-    } else if metadata.is_symlink() {
-        Kind::Link
-    } else {
-        Kind::Other
-    }
+/// Writes bytes to a new file, and waits until they are on the disk.
+fn fill<F: Write + OpenFile>(file: &mut F, bytes: &[u8]) -> Result<(), FileError> {
+    file.write_all(bytes)?;
+    file.sync_all()?;
+    Ok(())
 }
 
-/// All bytes of a regular file of at most so many. Nothing else is opened.
-fn read_file<R: Files>(
-    alloc: Global,
-    files: &R,
-    path: &str,
-    most: u64,
-) -> Result<Vec<u8>, FileError> {
-    let metadata = files.metadata(path)?;
-    if !metadata.is_file() {
-        return Err(FileError::NotAFile);
-    }
-    if metadata.len() > most {
-        return Err(FileError::TooLarge(most));
-    }
-    let mut file = File::open(files, path)?;
-    let mut bytes = Vec::new(alloc);
-    if let Ok(len) = usize::try_from(metadata.len()) {
-        bytes.reserve(len)?;
-    }
-    file.read_to_end(&mut bytes)?;
-    Ok(bytes)
+/// The device of a folder, if it is another one than that of the root.
+fn device_of<R: Files>(files: &R, folder: &str) -> Option<u64> {
+    let root = files.metadata("/").ok()?.dev();
+    let device = files.metadata(folder).ok()?.dev();
+    (device != root).then_some(device)
+}
+
+/// The path of a name in a folder, whose path ends with a slash.
+fn path_in(alloc: Global, folder: &str, name: &[u8]) -> Result<String, AllocError> {
+    let mut path = String::from_str(alloc, folder)?;
+    // A name that isn't UTF-8 leads nowhere.
+    path.push_str(str::from_utf8(name).unwrap_or(""))?;
+    Ok(path)
 }
 
 /// What a folder holds: names, each ended by NUL.

@@ -11,6 +11,8 @@ mod error;
 mod log;
 mod memory;
 mod names;
+mod rewriting;
+mod sweeping;
 mod system;
 mod walk;
 

@@ -212,6 +212,10 @@ impl FileSystem for MemoryFiles {
         }
     }
 
+    fn sweep(&mut self, _alloc: Global, _path: &str) -> Result<(), FileError> {
+        self.call()
+    }
+
     fn replace(
         &mut self,
         alloc: Global,

@@ -24,6 +24,27 @@ pub(crate) fn join(alloc: Global, folder: &str, name: &str) -> Result<String, Al
     Ok(path)
 }
 
+/// A path without what leads nowhere: `.` and doubled slashes.
+pub(crate) fn plain(alloc: Global, path: &str) -> Result<String, AllocError> {
+    let mut plain = String::new(alloc);
+    if path.starts_with('/') {
+        plain.push('/')?;
+    }
+    for part in path.split('/') {
+        if part.is_empty() || part == "." {
+            continue;
+        }
+        if !plain.is_empty() && !plain.ends_with('/') {
+            plain.push('/')?;
+        }
+        plain.push_str(part)?;
+    }
+    if plain.is_empty() {
+        plain.push('.')?;
+    }
+    Ok(plain)
+}
+
 /// The folder that a path is in, with its slash.
 pub(crate) fn folder_of(path: &str) -> &str {
     match path.rfind('/') {

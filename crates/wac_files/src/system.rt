@@ -42,8 +42,13 @@ pub trait FileSystem {
     fn resolve(&mut self, alloc: Global, path: &str) -> Result<String, FileError>
         ensures { replaced self.new ≡ replaced self.old };
 
-    /// All bytes of the file that a path leads to.
+    /// All bytes of the file that a path leads to, if it is no larger than those that are read.
     fn read(&mut self, alloc: Global, path: &str) -> Result<Vec<u8>, FileError>
+        ensures { replaced self.new ≡ replaced self.old };
+
+    /// Removes what runs that ended left in the folder of the file that a path leads to. Fails where one may have ended
+    /// while it wrote that file, and left a copy of what it held.
+    fn sweep(&mut self, alloc: Global, path: &str) -> Result<(), FileError>
         ensures { replaced self.new ≡ replaced self.old };
 
     /// Has the file that a path leads to, and that held these bytes, hold a text in their place: wholly or not at all.

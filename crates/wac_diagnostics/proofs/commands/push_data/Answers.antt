@@ -5,8 +5,9 @@ use Rattle.std.specs.Str.{IsUtf8}
 use Rattle.std.specs.Str.Iter.{chars_rest}
 use Rattle.std.proofs.lemmas.Str.{IsUtf8-past_char}
 use Rattle.std.proofs.lemmas.List.{append-nil}
+use Rattle.wac_excerpts.specs.Characters.{shown}
+use Rattle.wac_excerpts.proofs.Texts.{character_more, characters_end}
 use Rattle.wac_diagnostics.specs.Escapes.{data_character, data_text}
-use Rattle.wac_diagnostics.proofs.Characters.{character_more, characters_end}
 use Rattle.wac_diagnostics.proofs.commands.push_data.Goals as goal
 
 pub loop-c-init : goal.loop-c-init
@@ -23,7 +24,7 @@ loop-c-preserved c =
     let rest = chars_rest c.next.new.self in
     let step = c.in-Some.ensures.steps in
     let written : string_bytes c.push_escaped.new.out ≡ string_bytes c.loop-c.out ++ data_character c.in-Some.c =
-    c.in_ok-push_escaped.ensures ∙ ap (λ (e : Option (List ℕ)). string_bytes c.loop-c.out ++ unwrap_or e (encode_utf8 c.in-Some.c)) c.data_escape.ensures in
+    c.in_ok-push_escaped.ensures ∙ ap (λ (e : Option (List ℕ)). string_bytes c.loop-c.out ++ unwrap_or e (encode_utf8 (shown c.in-Some.c))) c.data_escape.ensures in
     record {
       utf8 = IsUtf8-past_char (chars_rest it) rest c.in-Some.c c.loop-c.invariant.utf8 step.0;
       left = ap (λ (t : List ℕ). t ++ data_text rest) written

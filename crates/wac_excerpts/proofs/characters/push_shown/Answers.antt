@@ -26,11 +26,11 @@ loop-c-preserved c =
     record {
       utf8 = IsUtf8-past_char (chars_rest it) rest c.in-Some.c c.loop-c.invariant.utf8 step.0;
       left = ap (λ (t : List ℕ). t ++ shown_text rest) written
-          ∙ shown_more (string_bytes c.loop-c.out) (string_bytes c.args.out.now ++ shown_text c.args.text.now) (chars_rest it) rest c.in-Some.c c.loop-c.invariant.utf8 step.0 c.loop-c.invariant.left;
+          ∙ shown_more shown (string_bytes c.loop-c.out) (string_bytes c.args.out.now ++ shown_text c.args.text.now) (chars_rest it) rest c.in-Some.c c.loop-c.invariant.utf8 step.0 c.loop-c.invariant.left;
     }
 
 pub returns : goal.returns
 returns c =
     sym (append-nil (string_bytes c.loop-c.out))
-    ∙ ap (λ (t : List ℕ). string_bytes c.loop-c.out ++ t) (sym (shown_end (chars_rest c.loop-c.c-iterator) c.in-None.ensures.steps.0.0))
+    ∙ ap (λ (t : List ℕ). string_bytes c.loop-c.out ++ t) (sym (shown_end shown (chars_rest c.loop-c.c-iterator) c.in-None.ensures.steps.0.0))
     ∙ c.loop-c.invariant.left
