@@ -446,20 +446,21 @@ impl Session {
         ensures written { IfOk result (λ stepped. AreReplies stepped.outcome.messages.items) }
         ensures keeps { self.new.server ≡ self.old.server }
     {
-        let outcome = self.text_taken(alloc, uri, outcome)?;
-        let is_strange = self.is_strange(alloc, uri)?;
+        if !self.is_strange(alloc, uri)? {
+            return Ok(stays(self.text_taken(alloc, uri, outcome)?));
+        }
+        let _ = self.take_text(alloc, uri)?;
         Ok(Stepped {
-            outcome,
-            reads: if is_strange {
-                Reads::Folders
-            } else {
-                Reads::Nothing
-            },
+            outcome: with_messages(outcome, Vec::new(alloc)),
+            reads: Reads::Folders,
         })
     }
 
-    /// Whether it isn't known which packages a document can mention.
+    /// Whether it isn't known which packages a document can mention, whose text is known.
     fn is_strange(&self, alloc: Global, uri: &str) -> Result<bool, AllocError> {
+        if self.server.document(uri).is_none() {
+            return Ok(false);
+        }
         match path_of_uri(alloc, uri)? {
             Some(path) => Ok(self.workspace.is_strange(path.as_str())),
             None => Ok(false),

@@ -4,6 +4,7 @@ use crate::mentions::Concerned;
 use crate::sources::{Source, with_mentioned};
 use indexmap::IndexMap;
 use std::alloc::{AllocError, Global};
+use std::collections::BTreeMap;
 use wac_declared_packages::copied_package;
 use wac_graph::{Package, PackageKey};
 use wac_package_errors::{DeclarationFault, Declared, KnownPackages, declare_all};
@@ -229,9 +230,24 @@ impl Packages {
         let needed = with_mentioned(alloc, sources, concerned)?;
         let listed = texts_of(alloc, sources, &needed)?;
         match declare(alloc, listed.texts.as_slice()) {
-            Ok(declared) => self.put(sources, declared, &listed, concerned),
-            Err(_) => Err(AllocError),
+            Ok(declared) => self.put(sources, declared, &listed, concerned)?,
+            Err(_) => return Err(AllocError),
         }
+        self.sort(alloc)
+    }
+
+    /// Brings the packages into the order of the documents, those of components last.
+    fn sort(&mut self, alloc: Global) -> Result<(), AllocError> {
+        let packages = std::mem::replace(&mut self.declared.packages, IndexMap::new(alloc));
+        let mut sorted = BTreeMap::new(alloc);
+        for (key, package) in packages {
+            let number = self.declared.texts.get(&key).copied().unwrap_or(0);
+            sorted.insert(number.wrapping_sub(self.components), (key, package))?;
+        }
+        for (key, package) in sorted.into_values() {
+            self.declared.packages.insert(key, package)?;
+        }
+        Ok(())
     }
 
     /// Puts what was declared of packages that a change concerns.
@@ -320,7 +336,7 @@ impl Packages {
         for number in 0..components.len() {
             self.add(alloc, number, &components[number], concerned)?;
         }
-        Ok(())
+        self.sort(alloc)
     }
 
     /// Adds copies of the packages of documents that a change concerns.
