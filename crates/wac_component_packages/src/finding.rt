@@ -27,8 +27,9 @@ struct PackageFolders<'f> {
 }
 
 /// The components below a folder, in the order of their names: `namespace/name.wasm` is that of the package
-/// `namespace:name`, and `namespace/name/VERSION.wasm` that of `namespace:name@VERSION`. Other files are left out, and so
-/// are names that begin with a dot, links to folders, and folders that can't be listed.
+/// `namespace:name`, and `namespace/name/VERSION.wasm` that of `namespace:name@VERSION`. Those in the folder itself have no
+/// key. Other files are left out, and so are names that begin with a dot, links to folders, and folders that can't be
+/// listed.
 pub fn find_components<F: FileSystem>(
     alloc: Global,
     files: &mut F,
@@ -54,7 +55,10 @@ fn add_namespaces<F: FileSystem>(
 {
     let entries = listed(alloc, files, folder)?;
     for namespace in entries.as_slice() {
-        add_namespace(alloc, files, found, namespace)?;
+        match stem_of(namespace.name.as_str()) {
+            None => add_namespace(alloc, files, found, namespace)?,
+            Some(_) => add(alloc, files, found, namespace, None)?,
+        }
     }
     Ok(())
 }
@@ -89,7 +93,7 @@ fn add_package<F: FileSystem>(
         None => add_versions(alloc, files, found, namespace, entry),
         Some(name) => {
             let key = key_of(alloc, namespace.name.as_str(), name, None)?;
-            add(alloc, files, found, entry, key)
+            add_keyed(alloc, files, found, entry, key)
         }
     }
 }
@@ -129,13 +133,13 @@ fn add_version<F: FileSystem>(
         None => Ok(()),
         version => {
             let key = key_of(alloc, package.namespace, package.name, version)?;
-            add(alloc, files, found, entry, key)
+            add_keyed(alloc, files, found, entry, key)
         }
     }
 }
 
-/// Adds a file, if there is a key.
-fn add<F: FileSystem>(
+/// Adds a file of a package, if it has a key.
+fn add_keyed<F: FileSystem>(
     alloc: Global,
     files: &mut F,
     found: &mut Vec<ComponentFile>,
@@ -147,6 +151,19 @@ fn add<F: FileSystem>(
     if key.is_none() {
         return Ok(());
     }
+    add(alloc, files, found, entry, key)
+}
+
+/// Adds a file.
+fn add<F: FileSystem>(
+    alloc: Global,
+    files: &mut F,
+    found: &mut Vec<ComponentFile>,
+    entry: &Entry,
+    key: Option<String>,
+) -> Result<(), AllocError>
+    ensures { F.replaced files.new ≡ F.replaced files.old }
+{
     if let Ok(Kind::File) = files.target(entry.path.as_str()) {
         let path = String::from_str(alloc, entry.path.as_str())?;
         found.push(ComponentFile { path, key })?;

@@ -41,6 +41,15 @@ pub(crate) struct ComponentPackage {
 pub(crate) struct FoundRoot {
     pub(crate) folders: Vec<String>,
     pub(crate) components: Vec<ComponentPackage>,
+    /// Files of components from whose paths no name of a package follows.
+    pub(crate) misplaced: Vec<String>,
+}
+
+/// Components of some folders.
+#[derive(Drop)]
+struct Gathered {
+    components: Vec<ComponentPackage>,
+    misplaced: Vec<String>,
 }
 
 /// Components that were found below a folder, and the resolved path of the folder in which that is.
@@ -314,10 +323,15 @@ impl FolderContents {
             return Ok(Some(number));
         }
         self.documents_outside(alloc, files, workspace, folders.as_slice())?;
-        let components = self.components_in(alloc, files, folders.as_slice())?;
+        let gathered = self.components_in(alloc, files, folders.as_slice())?;
+        let Gathered {
+            components,
+            misplaced,
+        } = gathered;
         self.roots.push(FoundRoot {
             folders,
             components,
+            misplaced,
         })?;
         Ok(Some(self.roots.len().saturating_sub(1)))
     }
@@ -383,10 +397,13 @@ impl FolderContents {
         alloc: Global,
         files: &mut F,
         folders: &[String],
-    ) -> Result<Vec<ComponentPackage>, AllocError>
+    ) -> Result<Gathered, AllocError>
         ensures { F.replaced files.new ≡ F.replaced files.old }
     {
-        let mut components = Vec::new(alloc);
+        let mut gathered = Gathered {
+            components: Vec::new(alloc),
+            misplaced: Vec::new(alloc),
+        };
         for folder in folders {
             let found = find_components(alloc, files, folder.as_str())?;
             let above = resolved_path(alloc, files, folder_of(folder.as_str()))?;
@@ -394,9 +411,9 @@ impl FolderContents {
                 found: found.as_slice(),
                 above: above.as_str(),
             };
-            self.components(alloc, files, &mut components, below)?;
+            self.components(alloc, files, &mut gathered, below)?;
         }
-        Ok(components)
+        Ok(gathered)
     }
 
     /// Reads components that were found below a folder.
@@ -404,14 +421,14 @@ impl FolderContents {
         &mut self,
         alloc: Global,
         files: &mut F,
-        components: &mut Vec<ComponentPackage>,
+        gathered: &mut Gathered,
         below: Below<'_>,
     ) -> Result<(), AllocError>
         ensures { F.replaced files.new ≡ F.replaced files.old }
     {
         for file in below.found {
             if self.stays_within(alloc, files, file.path.as_str(), below.above)? {
-                self.component(alloc, files, components, file)?;
+                self.component(alloc, files, gathered, file)?;
             }
         }
         Ok(())
@@ -488,18 +505,19 @@ impl FolderContents {
         &mut self,
         alloc: Global,
         files: &mut F,
-        components: &mut Vec<ComponentPackage>,
+        gathered: &mut Gathered,
         file: &ComponentFile,
     ) -> Result<(), AllocError>
         ensures { F.replaced files.new ≡ F.replaced files.old }
     {
+        let path = file.path.as_str();
         let Some(key) = &file.key else {
+            gathered.misplaced.push(String::from_str(alloc, path)?)?;
             return Ok(());
         };
-        if has_component(components.as_slice(), key.as_str()) {
+        if has_component(gathered.components.as_slice(), key.as_str()) {
             return Ok(());
         }
-        let path = file.path.as_str();
         let component = match files.read(alloc, path) {
             Ok(bytes) => component_of(alloc, path, key.as_str(), bytes.as_slice())?,
             Err(error) => {
@@ -507,7 +525,7 @@ impl FolderContents {
                 unread_component(alloc, path, key.as_str())?
             }
         };
-        components.push(component)?;
+        gathered.components.push(component)?;
         Ok(())
     }
 

@@ -1,5 +1,5 @@
 //! The packages that the documents and components of folders have.
-use crate::contents::ComponentPackage;
+use crate::contents::{ComponentPackage, FoundRoot};
 use crate::mentions::Concerned;
 use crate::sources::{Source, with_mentioned};
 use indexmap::IndexMap;
@@ -7,7 +7,7 @@ use std::alloc::{AllocError, Global};
 use std::collections::BTreeMap;
 use wac_declared_packages::copied_package;
 use wac_graph::{Package, PackageKey};
-use wac_package_errors::{DeclarationFault, Declared, KnownPackages, declare_all};
+use wac_package_errors::{DeclarationFault, Declared, KnownPackages, Searched, declare_all};
 use wac_package_names::key_named;
 
 /// The packages that documents and components have.
@@ -19,6 +19,10 @@ pub(crate) struct Packages {
     names: Vec<String>,
     /// How many components there are.
     components: usize,
+    /// The folders in which components were looked for.
+    searched: Vec<String>,
+    /// Files of components there from whose paths no name of a package follows.
+    misplaced: Vec<String>,
 }
 
 /// Texts that declare packages, with the numbers of their sources.
@@ -41,6 +45,19 @@ fn below<'p>(folders: &[String], path: &'p str) -> &'p str {
         }
     }
     path
+}
+
+/// Paths, as the client's folders have them.
+fn names_below(
+    alloc: Global,
+    folders: &[String],
+    paths: &[String],
+) -> Result<Vec<String>, AllocError> {
+    let mut names = Vec::with_capacity(alloc, paths.len())?;
+    for path in paths {
+        names.push(String::from_str(alloc, below(folders, path.as_str()))?)?;
+    }
+    Ok(names)
 }
 
 /// The texts of the documents that declare some packages.
@@ -146,6 +163,41 @@ fn faults_left(
     Ok(left)
 }
 
+/// The numbers of texts in their order, those of so many components last.
+fn sorted_texts(
+    alloc: Global,
+    texts: IndexMap<PackageKey, usize>,
+    components: usize,
+) -> Result<IndexMap<PackageKey, usize>, AllocError> {
+    let mut keys = BTreeMap::new(alloc);
+    for (key, number) in texts {
+        keys.insert(number.wrapping_sub(components), (key, number))?;
+    }
+    let mut sorted = IndexMap::new(alloc);
+    for (key, number) in keys.into_values() {
+        sorted.insert(key, number)?;
+    }
+    Ok(sorted)
+}
+
+/// Packages in the order of their texts.
+fn sorted_packages(
+    alloc: Global,
+    packages: IndexMap<PackageKey, Package>,
+    texts: &IndexMap<PackageKey, usize>,
+) -> Result<IndexMap<PackageKey, Package>, AllocError> {
+    let mut places = BTreeMap::new(alloc);
+    for (key, package) in packages {
+        let place = texts.get_index_of(&key).unwrap_or(texts.len());
+        places.insert(place, (key, package))?;
+    }
+    let mut sorted = IndexMap::new(alloc);
+    for (key, package) in places.into_values() {
+        sorted.insert(key, package)?;
+    }
+    Ok(sorted)
+}
+
 /// Nothing that is declared.
 fn nothing(alloc: Global) -> Declared {
     Declared {
@@ -162,20 +214,24 @@ impl Packages {
             declared: nothing(alloc),
             names: Vec::new(alloc),
             components: 0,
+            searched: Vec::new(alloc),
+            misplaced: Vec::new(alloc),
         }
     }
 
-    /// No packages, with the names of components.
-    pub(crate) fn of_components(
+    /// No packages, with the names of the components of a root, as the client's folders have them.
+    pub(crate) fn of_root(
         alloc: Global,
         folders: &[String],
-        components: &[ComponentPackage],
+        root: &FoundRoot,
     ) -> Result<Packages, AllocError> {
         let mut packages = Packages::none(alloc);
-        packages.components = components.len();
-        for component in components {
+        packages.components = root.components.len();
+        for component in root.components.as_slice() {
             packages.name(alloc, folders, component.path.as_str())?;
         }
+        packages.searched = names_below(alloc, folders, root.folders.as_slice())?;
+        packages.misplaced = names_below(alloc, folders, root.misplaced.as_slice())?;
         Ok(packages)
     }
 
@@ -238,15 +294,10 @@ impl Packages {
 
     /// Brings the packages into the order of the documents, those of components last.
     fn sort(&mut self, alloc: Global) -> Result<(), AllocError> {
+        let texts = std::mem::replace(&mut self.declared.texts, IndexMap::new(alloc));
+        self.declared.texts = sorted_texts(alloc, texts, self.components)?;
         let packages = std::mem::replace(&mut self.declared.packages, IndexMap::new(alloc));
-        let mut sorted = BTreeMap::new(alloc);
-        for (key, package) in packages {
-            let number = self.declared.texts.get(&key).copied().unwrap_or(0);
-            sorted.insert(number.wrapping_sub(self.components), (key, package))?;
-        }
-        for (key, package) in sorted.into_values() {
-            self.declared.packages.insert(key, package)?;
-        }
+        self.declared.packages = sorted_packages(alloc, packages, &self.declared.texts)?;
         Ok(())
     }
 
@@ -404,6 +455,10 @@ impl Packages {
         KnownPackages {
             declared: &self.declared,
             names: self.names.as_slice(),
+            searched: Searched {
+                paths: self.searched.as_slice(),
+                misplaced: self.misplaced.as_slice(),
+            },
         }
     }
 

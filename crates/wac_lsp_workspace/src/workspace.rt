@@ -108,10 +108,11 @@ fn with_names(
 ) -> Result<Vec<Root>, AllocError> {
     let mut roots = Vec::with_capacity(alloc, found.len())?;
     for root in found {
-        let packages = Packages::of_components(alloc, folders, root.components.as_slice())?;
+        let packages = Packages::of_root(alloc, folders, &root)?;
         let FoundRoot {
             folders,
             components,
+            ..
         } = root;
         roots.push(Root {
             folders,
