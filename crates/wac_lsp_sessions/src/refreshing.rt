@@ -40,7 +40,11 @@ fn published(
 }
 
 /// Whether some packages concern what is told of a document.
-fn is_concerned(document: &Document, alloc: Global, concerned: &Concerned) -> Result<bool, AllocError> {
+fn is_concerned(
+    document: &Document,
+    alloc: Global,
+    concerned: &Concerned,
+) -> Result<bool, AllocError> {
     concerned.concern(alloc, document.text())
 }
 

@@ -61,7 +61,8 @@ pub struct Stepped {
 }
 
 /// What is told where memory runs out while folders are read, or packages are made of them.
-const NO_MEMORY: &str = "the folders need more memory than there is: they are as if they were not open";
+const NO_MEMORY: &str =
+    "the folders need more memory than there is: they are as if they were not open";
 
 /// Whether a request is one with which a client begins.
 fn initializes(call: &Call) -> bool {
@@ -258,13 +259,31 @@ impl Session {
         };
         match question {
             Question::Definition(place) => {
-                declared_at(alloc, &self.server, self.seen(alloc, document)?, document, *place)
+                declared_at(
+                    alloc,
+                    &self.server,
+                    self.seen(alloc, document)?,
+                    document,
+                    *place,
+                )
             }
             Question::Hover(place) => {
-                hovered_at(alloc, &self.server, self.seen(alloc, document)?, document, *place)
+                hovered_at(
+                    alloc,
+                    &self.server,
+                    self.seen(alloc, document)?,
+                    document,
+                    *place,
+                )
             }
             Question::Completions(place) => {
-                completed_at(alloc, &self.server, self.seen(alloc, document)?, document, *place)
+                completed_at(
+                    alloc,
+                    &self.server,
+                    self.seen(alloc, document)?,
+                    document,
+                    *place,
+                )
             }
             Question::CodeActions(range) => {
                 mended_at(alloc, &self.server, &self.workspace, document, *range)
@@ -508,12 +527,7 @@ impl Session {
     }
 
     /// What is told of a document alone: what the workspace says of it, or else what the server does.
-    fn told_anew(
-        &self,
-        alloc: Global,
-        uri: &str,
-        outcome: Outcome,
-    ) -> Result<Outcome, AllocError>
+    fn told_anew(&self, alloc: Global, uri: &str, outcome: Outcome) -> Result<Outcome, AllocError>
         requires ids { replies outcome.messages.items ≡ [] }
         requires written { AreReplies outcome.messages.items }
         ensures ids { IfOk result (λ outcome. replies outcome.messages.items ≡ []) }

@@ -26,10 +26,7 @@ pub(crate) enum Touched {
 }
 
 /// The paths of files, if they are known: a file of another machine is none.
-fn paths_of(
-    alloc: Global,
-    uris: &Option<Vec<String>>,
-) -> Result<Option<Vec<String>>, AllocError> {
+fn paths_of(alloc: Global, uris: &Option<Vec<String>>) -> Result<Option<Vec<String>>, AllocError> {
     match uris {
         Some(uris) => Ok(Some(folder_paths(alloc, uris.as_slice())?)),
         None => Ok(None),

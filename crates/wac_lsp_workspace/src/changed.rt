@@ -125,10 +125,7 @@ fn meaning_of_component(
     path: &str,
 ) -> Result<Meaning, AllocError> {
     match component_at(workspace.roots(), path) {
-        Some(component) => Ok(Meaning::Component(String::from_str(
-            alloc,
-            component.key.as_str(),
-        )?)),
+        Some(component) => Ok(Meaning::Component(String::from_str(alloc, component.key.as_str())?)),
         None if is_of_packages(path) => Ok(Meaning::Folders),
         None => Ok(Meaning::Nothing),
     }

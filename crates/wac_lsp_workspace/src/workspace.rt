@@ -271,7 +271,7 @@ impl Workspace {
 
     /// Whether the folders are to be read for a document: it is in one, in which it isn't known where its packages are.
     pub fn is_strange(&self, path: &str) -> bool {
-        self.is_read && self.holds(path) && !self.houses(folder_of(path))
+        self.resolves(path) && !self.houses(folder_of(path))
     }
 
     /// What is known for a document.

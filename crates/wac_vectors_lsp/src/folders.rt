@@ -138,7 +138,10 @@ static MANY: [(&str, &str); 6] = [
         "/project/b.wac",
         "package a:c;\ninterface j { use a:b/i.{t}; }\n",
     ),
-    ("/project/c.wac", "package a:d;\ninterface k { type t = u8; }\n"),
+    (
+        "/project/c.wac",
+        "package a:d;\ninterface k { type t = u8; }\n",
+    ),
     ("/project/d.wac", "package a:e;\n"),
     ("/project/e.wac", "package a:f;\n"),
     ("/project/app.wac", COMPOSITION),

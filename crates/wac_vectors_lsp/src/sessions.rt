@@ -97,11 +97,11 @@ static ROWS: [Row; 13] = [
     // A package that there isn't: the edit that mends it, of a range that touches the name, and of one that doesn't.
     (
         "{\"jsonrpc\":\"2.0\",\"method\":\"textDocument/didChange\",\"params\":{\"contentChanges\":[{\"text\":\"package a:app;\\nlet x = new a:d { };\\n\"}],\"textDocument\":{\"uri\":\"file:///my%20project/app.wac\",\"version\":3}}}",
-        "{\"jsonrpc\":\"2.0\",\"method\":\"textDocument/publishDiagnostics\",\"params\":{\"diagnostics\":[{\"code\":\"wac::unknown-package\",\"message\":\"unknown package `a:d`\\nno file of the folders has it\",\"range\":{\"end\":{\"character\":15,\"line\":1},\"start\":{\"character\":12,\"line\":1}},\"relatedInformation\":[],\"severity\":1,\"source\":\"wac\"}],\"uri\":\"file:///my%20project/app.wac\",\"version\":3}}\n",
+        "{\"jsonrpc\":\"2.0\",\"method\":\"textDocument/publishDiagnostics\",\"params\":{\"diagnostics\":[{\"code\":\"wac::unknown-package\",\"message\":\"unknown package `a:d`\\n`a:b` is declared by b.wac, `a:c` is declared by c.wac\",\"range\":{\"end\":{\"character\":15,\"line\":1},\"start\":{\"character\":12,\"line\":1}},\"relatedInformation\":[],\"severity\":1,\"source\":\"wac\"}],\"uri\":\"file:///my%20project/app.wac\",\"version\":3}}\n",
     ),
     (
         "{\"id\":9,\"jsonrpc\":\"2.0\",\"method\":\"textDocument/codeAction\",\"params\":{\"context\":{\"diagnostics\":[]},\"range\":{\"end\":{\"character\":13,\"line\":1},\"start\":{\"character\":13,\"line\":1}},\"textDocument\":{\"uri\":\"file:///my%20project/app.wac\"}}}",
-        "{\"id\":9,\"jsonrpc\":\"2.0\",\"result\":[{\"diagnostics\":[{\"code\":\"wac::unknown-package\",\"message\":\"unknown package `a:d`\\nno file of the folders has it\",\"range\":{\"end\":{\"character\":15,\"line\":1},\"start\":{\"character\":12,\"line\":1}},\"relatedInformation\":[],\"severity\":1,\"source\":\"wac\"}],\"edit\":{\"changes\":{\"file:///my%20project/app.wac\":[{\"newText\":\"a:b\",\"range\":{\"end\":{\"character\":15,\"line\":1},\"start\":{\"character\":12,\"line\":1}}}]}},\"kind\":\"quickfix\",\"title\":\"write `a:b`\"}]}\n",
+        "{\"id\":9,\"jsonrpc\":\"2.0\",\"result\":[{\"diagnostics\":[{\"code\":\"wac::unknown-package\",\"message\":\"unknown package `a:d`\\n`a:b` is declared by b.wac, `a:c` is declared by c.wac\",\"range\":{\"end\":{\"character\":15,\"line\":1},\"start\":{\"character\":12,\"line\":1}},\"relatedInformation\":[],\"severity\":1,\"source\":\"wac\"}],\"edit\":{\"changes\":{\"file:///my%20project/app.wac\":[{\"newText\":\"a:b\",\"range\":{\"end\":{\"character\":15,\"line\":1},\"start\":{\"character\":12,\"line\":1}}}]}},\"kind\":\"quickfix\",\"title\":\"write `a:b`\"}]}\n",
     ),
 ];
 
@@ -207,7 +207,7 @@ static OF_PACKAGES: [Row; 11] = [
     // A folder of what was built isn't entered.
     (
         "{\"jsonrpc\":\"2.0\",\"method\":\"textDocument/didChange\",\"params\":{\"contentChanges\":[{\"text\":\"package a:app;\\nlet x = new t:x { };\\n\"}],\"textDocument\":{\"uri\":\"file:///p/app.wac\",\"version\":2}}}",
-        "{\"jsonrpc\":\"2.0\",\"method\":\"textDocument/publishDiagnostics\",\"params\":{\"diagnostics\":[{\"code\":\"wac::unknown-package\",\"message\":\"unknown package `t:x`\\nno file of the folders has it\",\"range\":{\"end\":{\"character\":15,\"line\":1},\"start\":{\"character\":12,\"line\":1}},\"severity\":1,\"source\":\"wac\"}],\"uri\":\"file:///p/app.wac\",\"version\":2}}\n",
+        "{\"jsonrpc\":\"2.0\",\"method\":\"textDocument/publishDiagnostics\",\"params\":{\"diagnostics\":[{\"code\":\"wac::unknown-package\",\"message\":\"unknown package `t:x`\\n`t:w` is declared by two.wac\",\"range\":{\"end\":{\"character\":15,\"line\":1},\"start\":{\"character\":12,\"line\":1}},\"severity\":1,\"source\":\"wac\"}],\"uri\":\"file:///p/app.wac\",\"version\":2}}\n",
     ),
     // A component in `deps`.
     (
@@ -258,7 +258,7 @@ static ALONE: [Row; 2] = [
     ),
     (
         "{\"jsonrpc\":\"2.0\",\"method\":\"textDocument/didOpen\",\"params\":{\"textDocument\":{\"languageId\":\"wac\",\"text\":\"package a:app;\\nlet x = new a:b { };\\n\",\"uri\":\"file:///e/app.wac\",\"version\":1}}}",
-        "{\"jsonrpc\":\"2.0\",\"method\":\"textDocument/publishDiagnostics\",\"params\":{\"diagnostics\":[{\"code\":\"wac::unknown-package\",\"message\":\"unknown package `a:b`\\nno file of the folders has it\",\"range\":{\"end\":{\"character\":15,\"line\":1},\"start\":{\"character\":12,\"line\":1}},\"severity\":1,\"source\":\"wac\"}],\"uri\":\"file:///e/app.wac\",\"version\":1}}\n",
+        "{\"jsonrpc\":\"2.0\",\"method\":\"textDocument/publishDiagnostics\",\"params\":{\"diagnostics\":[{\"code\":\"wac::unknown-package\",\"message\":\"unknown package `a:b`\\nput its component at `deps/a/b.wasm`, or a document that declares it into `deps`\",\"range\":{\"end\":{\"character\":15,\"line\":1},\"start\":{\"character\":12,\"line\":1}},\"severity\":1,\"source\":\"wac\"}],\"uri\":\"file:///e/app.wac\",\"version\":1}}\n",
     ),
 ];
 
@@ -456,7 +456,7 @@ fn a_stream_of_messages_is_served(rt: HostRuntime) -> Result<(), Fail> {
     let mut output = Narrow::new(alloc, usize::MAX);
     let found = ending(alloc, Pieces::new(stream.as_bytes(), 1), &mut output)?;
     // The folder was looked at.
-    let wanted = "no file of the folders has it";
+    let wanted = "`a:b` is declared by b.wac";
     let written = str::from_utf8(output.bytes()).unwrap_or("");
     assert!(rt;
         found.as_str() == "status 0" && written.contains(wanted),
