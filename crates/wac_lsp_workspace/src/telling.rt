@@ -1,24 +1,24 @@
 //! What is wrong with the documents of folders.
-use crate::packages::Packages;
 use std::alloc::{AllocError, Global};
 use wac_diagnostics::Diagnostic;
 use wac_first_error::Reading;
 use wac_package_errors::{
-    Composed, KnownPackages, declaration_diagnostic, first_error_with, flat_text, warnings_of,
+    Composed, DeclarationFault, KnownPackages, declaration_diagnostic, first_error_with, flat_text,
+    warnings_of,
 };
 
 /// The code of an instantiation of a package of which no world is chosen.
 const NO_WORLD: &str = "wac::no-world";
 
-/// What is wrong with the document of this number, which declares a package or is to.
+/// What of some faults is wrong with the document of this number, which declares a package or is to.
 pub(crate) fn declaration_fault(
     alloc: Global,
-    packages: &Packages,
+    faults: &[DeclarationFault],
+    known: KnownPackages<'_>,
     document: usize,
     text: &str,
 ) -> Result<Vec<Diagnostic>, AllocError> {
-    let known = packages.known();
-    for fault in known.declared.faults.as_slice() {
+    for fault in faults {
         if fault.text == document {
             let diagnostic = declaration_diagnostic(alloc, text, &fault.error, known)?;
             return shown_in_editor(alloc, diagnostic);
