@@ -70,8 +70,8 @@ typedef struct {
  * stands for 256, for which a thread with a stack of 512 KB suffices. Types that name one another in a chain, as in
  * type b = list<a>; type c = list<b>; take memory and no stack where they are compared (bench/README.md).
  *
- * The text, `out`, `message` and *answer don't overlap. No pointer is null, not where its length is 0 either, and none
- * is used after the call. Bytes of `out` and `message` that aren't written stay as they are, and what *answer holds
+ * The text, `out`, `message` and *answer don't overlap. A pointer may be null where its length is 0, and no other is;
+ * none is used after the call. Bytes of `out` and `message` that aren't written stay as they are, and what *answer holds
  * before the call is not read. */
 void wac_run(uint32_t word, size_t limit, const uint8_t *text, size_t text_length, uint8_t *out, size_t out_room,
              uint8_t *message, size_t message_room, wac_answer *answer);

@@ -1,5 +1,5 @@
-/* Tests of include/wac.h: rows of what calls write, room of each size, packages, nesting, and threads. Ends with status
- * 0 where all of them hold. */
+/* Tests of include/wac.h: rows of what calls write, room of each size, packages, null, nesting, and threads. Ends with
+ * status 0 where all of them hold. */
 #define _POSIX_C_SOURCE 200809L
 #include "wac.h"
 
@@ -161,6 +161,29 @@ static void test_components(void) {
     }
 }
 
+/* A pointer may be null where its length is 0: of the text, of the packages and of both rooms. */
+static void test_null(void) {
+    static const struct { const char *text; int is_graph; uint32_t status; size_t offset, length; } want[] = {
+        {NULL, 0, WAC_REJECTED, 0, 1},
+        {FIRST_PRINTED, 0, WAC_WELL, 0, 0},
+        {NULL, 1, WAC_REJECTED, 0, 1},
+        {APP, 1, WAC_REJECTED, 25, 3},
+        {"package a:b;", 1, WAC_WELL, 0, 0},
+    };
+    for (size_t at = 0; at < sizeof want / sizeof *want; at++) {
+        wac_answer answer;
+        const uint8_t *text = (const uint8_t *)want[at].text;
+        size_t length = want[at].text ? strlen(want[at].text) : 0;
+        if (want[at].is_graph)
+            wac_graph(0, text, length, NULL, 0, NULL, 0, NULL, 0, &answer);
+        else
+            wac_run(WAC_FMT, 0, text, length, NULL, 0, NULL, 0, &answer);
+        if (answer.status != want[at].status || answer.offset != want[at].offset || answer.length != want[at].length
+            || answer.written != 0 || (answer.status == WAC_WELL) != (answer.message_needed == 0))
+            fail("null", at);
+    }
+}
+
 /* Makes a text whose parts nest so deep, after brackets that don't count, in memory that the caller frees. */
 static char *nested(const char *head, const char *before, const char *within, const char *after, size_t depth) {
     char *text = malloc(strlen(head) + depth * (strlen(before) + strlen(after)) + strlen(within) + 2);
@@ -317,6 +340,7 @@ int main(void) {
     test_rows();
     test_graphs();
     test_components();
+    test_null();
     test_nesting();
     test_threads();
     return failed;

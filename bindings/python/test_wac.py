@@ -85,9 +85,24 @@ class Calls(unittest.TestCase):
         self.assertEqual((error.status, error.span), (wac.Status.NESTED_TOO_DEEP, wac.Span(21 + 256, 1)))
         self.assertIn("(" * 257, self.front.run(wac.Word.FMT, text, limit=257))
 
-    def test_no_word(self):
-        with self.assertRaises(ValueError):
-            self.front.run(8, FIRST)
+    def test_numbers_out_of_range(self):
+        for word in (8, -1, 1 << 32):
+            with self.assertRaises(ValueError):
+                self.front.run(word, FIRST)
+        deep = "package a:b; let x = " + "(" * 100000 + "y" + ")" * 100000 + ";"
+        for limit in (-1, wac.LARGEST_LIMIT + 1):
+            with self.assertRaises(ValueError):
+                self.front.run(wac.Word.FMT, deep, limit)
+            with self.assertRaises(ValueError):
+                self.front.graph(deep, limit=limit)
+        self.assertEqual(self.front.run(wac.Word.FMT, FIRST, wac.LARGEST_LIMIT), FIRST_PRINTED)
+
+    def test_lines_end_in_lf(self):
+        self.assertEqual(self.front.tokens(""), [])
+        name = "a\u2028b"
+        self.assertEqual(
+            self.front.resolve(f'package a:b; import y as "{name}": func();'), [f"0 import {name}: function [y]"]
+        )
 
     def test_threads(self):
         printed = []

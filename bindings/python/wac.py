@@ -7,8 +7,8 @@
     >>> front.parse_error("package a:b; let x y;")
     WacError('expected `=`, found identifier', Span(offset=19, length=1))
 
-The shared library `libwac.so` is found at the path in the environment's WAC_LIBRARY, beside this file, or where the
-repository builds it. Texts are `str`; places count the bytes of their UTF-8.
+The shared library `libwac.so` is found at the path in the environment's WAC_LIBRARY, or else beside this file, and
+nowhere else. Texts are `str`; places count the bytes of their UTF-8.
 """
 from __future__ import annotations
 
@@ -17,8 +17,8 @@ import enum
 import os
 from typing import Any, Callable, List, NamedTuple, Optional, Sequence, Union
 
-HERE = os.path.dirname(os.path.abspath(__file__))
-PLACES = (os.path.join(HERE, "libwac.so"), os.path.join(HERE, "..", "..", "out", "libwac.so"))
+BESIDE = os.path.join(os.path.dirname(os.path.abspath(__file__)), "libwac.so")
+LARGEST_LIMIT = ctypes.c_size_t(-1).value
 
 
 class Word(enum.IntEnum):
@@ -89,12 +89,23 @@ class _Answer(ctypes.Structure):
 
 
 def _found(path: Optional[str]) -> str:
-    """The path of the library."""
-    places = (path,) if path else tuple(filter(None, (os.environ.get("WAC_LIBRARY"),))) or PLACES
-    for place in places:
-        if os.path.isfile(place):
-            return place
-    raise OSError(f"there is no {places[-1]}: ./wac --build-library makes it, or set WAC_LIBRARY to its path")
+    """The path of the library, which names a file also where it has no slash."""
+    place = os.path.abspath(path or os.environ.get("WAC_LIBRARY") or BESIDE)
+    if not os.path.isfile(place):
+        raise OSError(f"there is no {place}: ./wac --build-library makes it, and WAC_LIBRARY may be set to its path")
+    return place
+
+
+def _limit(limit: int) -> int:
+    """The limit, which `ctypes` would make another number of where it is out of range."""
+    if not 0 <= limit <= LARGEST_LIMIT:
+        raise ValueError(f"a limit of nested brackets is a number from 0 to {LARGEST_LIMIT}")
+    return limit
+
+
+def _lines(written: str) -> List[str]:
+    """The lines that were written. Each ends in LF; other ends of lines, as U+2028, may be in a name."""
+    return written.split("\n")[:-1]
 
 
 def _frames(packages: Sequence[Union[str, Component]]) -> bytes:
@@ -124,9 +135,8 @@ def _call(length: int, call: Callable[..., None]) -> str:
     out, message = ctypes.create_string_buffer(2 * length + 256), ctypes.create_string_buffer(256)
     call(out, len(out), message, len(message), ctypes.byref(answer))
     if answer.needed > len(out) or answer.message_needed > len(message):
-        # A buffer of no bytes would have no pointer.
-        out = ctypes.create_string_buffer(answer.needed + 1)
-        message = ctypes.create_string_buffer(answer.message_needed + 1)
+        out = ctypes.create_string_buffer(answer.needed)
+        message = ctypes.create_string_buffer(answer.message_needed)
         call(out, len(out), message, len(message), ctypes.byref(answer))
     return _told(answer, out, message)
 
@@ -145,9 +155,10 @@ class Front:
     def run(self, word: Word, text: str, limit: int = 0) -> str:
         """What a word writes of a text, or a WacError.
 
-        A limit of 0 allows 256 nested brackets, of which a brace counts as two.
+        A limit of 0 allows 256 nested brackets, of which a brace counts as two. A number of no word, or a limit that is
+        negative or too large, is a ValueError.
         """
-        source = text.encode()
+        word, limit, source = Word(word), _limit(limit), text.encode()
         return _call(len(source), lambda *rooms: self._run(word, limit, source, len(source), *rooms))
 
     def parse_error(self, text: str) -> Optional[WacError]:
@@ -189,20 +200,20 @@ class Front:
 
     def packages(self, text: str) -> List[str]:
         """The foreign packages that the document mentions, as NAME or NAME@VERSION."""
-        return self.run(Word.PACKAGES, text).splitlines()
+        return _lines(self.run(Word.PACKAGES, text))
 
     def graph(self, text: str, packages: Sequence[Union[str, Component]] = (), limit: int = 0) -> str:
         """The graph that the document describes, as JSON.
 
         It may mention the packages that other documents declare and those of components, in any order.
         """
-        source, frames = text.encode(), _frames(packages)
+        source, frames, limit = text.encode(), _frames(packages), _limit(limit)
         return _call(len(source), lambda *rooms: self._graph(limit, source, len(source), frames, len(frames), *rooms))
 
     def resolve(self, text: str) -> List[str]:
         """The lines of the graph that the document describes, with no packages supplied, as `wac resolve` has them."""
-        return self.run(Word.RESOLVE, text).splitlines()
+        return _lines(self.run(Word.RESOLVE, text))
 
     def tokens(self, text: str) -> List[str]:
         """A line OFFSET+LEN TEXT for each token or fault."""
-        return self.run(Word.TOKENS, text).splitlines()
+        return _lines(self.run(Word.TOKENS, text))

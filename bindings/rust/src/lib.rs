@@ -267,8 +267,8 @@ pub fn tokens(text: &str) -> Result<Vec<String>, Error> {
     lines(Word::Tokens, text)
 }
 
-/// The lines that a word writes.
+/// The lines that a word writes. Each ends in LF, and a CR before that is part of it.
 fn lines(word: Word, text: &str) -> Result<Vec<String>, Error> {
     let written = run(word, text, DEFAULT_LIMIT)?;
-    Ok(written.lines().map(str::to_owned).collect())
+    Ok(written.split_terminator('\n').map(str::to_owned).collect())
 }
