@@ -1,5 +1,6 @@
 // Where a command writes.
-ghost use Rattle.wac_cli_console.specs.Outcomes.{IsFailure};
+ghost use Rattle.std.specs.Prelude.{◌≡◌, ◌≤◌};
+ghost use Rattle.wac_cli_console.specs.Outcomes.{IsFailure, code_of};
 
 use crate::options::Report;
 use crate::outcome::{Outcome, Status};
@@ -9,6 +10,9 @@ use std::string::ToString;
 use wac_diagnostics::{Diagnostic, github, human, json};
 use wac_excerpts::{push_carets, push_escaped, push_shown};
 use wac_files::FileError;
+
+/// The code of the error that paths lead to no document.
+const NOTHING_TO_CHECK: &str = "wac::nothing-to-check";
 
 /// A writer that is written to until it fails.
 #[derive(Drop)]
@@ -186,9 +190,12 @@ impl<O: Write + Drop, E: Write + Drop> Console<O, E> {
     }
 
     /// Says that paths led to no document.
-    pub fn no_document(&mut self) -> Status {
-        self.errors
-            .write(b"error[wac::nothing-to-check]: no document was found\n");
+    pub fn no_document(&mut self) -> Status
+        ensures { result ≡ Status.Wrong }
+    {
+        self.errors.write(b"error[");
+        self.errors.write(NOTHING_TO_CHECK.as_bytes());
+        self.errors.write(b"]: no document was found\n");
         Status::Wrong
     }
 
@@ -208,7 +215,9 @@ impl<O: Write + Drop, E: Write + Drop> Console<O, E> {
     }
 
     /// Ends what is written: says that the output failed, if it did. Returns the worst status that this and others lead to.
-    pub fn end(&mut self, alloc: Global, status: Status) -> Status {
+    pub fn end(&mut self, alloc: Global, status: Status) -> Status
+        ensures { code_of status ≤ code_of result }
+    {
         let reported = match self.report_output(alloc) {
             Ok(()) => Status::Well,
             Err(AllocError) => self.out_of_memory(),

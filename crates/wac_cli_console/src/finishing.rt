@@ -1,4 +1,7 @@
 // The end of a run.
+ghost use Rattle.std.specs.Prelude.{◌≡◌, ◌<◌, []};
+ghost use Rattle.wac_cli_console.specs.Outcomes.{code_of};
+
 use crate::console::Console;
 use crate::last_line::{Task, summary};
 use crate::outcome::{Outcome, Status, worst};
@@ -12,7 +15,10 @@ pub fn finish<O: Write + Drop, E: Write + Drop>(
     console: &mut Console<O, E>,
     task: Task,
     outcomes: &[Outcome],
-) -> Status {
+) -> Status
+    // Where there was no file, all is not well.
+    ensures { outcomes.now ≡ [] → 0 < code_of result }
+{
     let status = if outcomes.is_empty() {
         console.no_document()
     } else {

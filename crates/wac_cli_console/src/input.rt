@@ -1,4 +1,6 @@
 // Reading standard input.
+ghost use Rattle.std.specs.Prelude.{◌≤◌, IfOk, length};
+
 use std::alloc::Global;
 use std::io::{ErrorKind, Read};
 use wac_files::FileError;
@@ -16,13 +18,15 @@ pub struct InputOptions<'n> {
 }
 
 /// All bytes of a reader, which are at most so many: of one that has more no more are kept.
-pub fn read_all<I: Read>(alloc: Global, input: &mut I, most: u64) -> Result<Vec<u8>, FileError> {
+pub fn read_all<I: Read>(alloc: Global, input: &mut I, most: u64) -> Result<Vec<u8>, FileError>
+    ensures { IfOk result (λ bytes. length bytes.items ≤ most) }
+{
     let mut bytes = Vec::new(alloc);
     let mut part = [0u8; 65536];
     for _ in 0..u64::MAX {
         match input.read(&mut part) {
             Ok(0) => break,
-            Ok(len) if (bytes.len() as u64).saturating_add(len as u64) > most => {
+            Ok(len) if len as u64 > most.saturating_sub(bytes.len() as u64) => {
                 return Err(FileError::TooLarge(most));
             }
             Ok(len) => bytes.extend_from_slice(&part[..len])?,

@@ -130,7 +130,7 @@ fn links_are_written_through_where_they_are_named(rt: HostRuntime) -> Result<(),
     files.link(rt.alloc(), "a/to-b.wac", "b.wac")?;
     let run = format(rt.alloc(), &mut files, options(Action::Write), &["a"]);
     let said =
-        "error[wac::no-document]: no document was found\n0 files, 0 changed, 0 with errors\n";
+        "error[wac::nothing-to-check]: no document was found\n0 files, 0 changed, 0 with errors\n";
     expect(&rt, &run, 1, "", said)?;
     assert!(rt; holds(&files, "b.wac", UNTIDY));
     let run = format(
