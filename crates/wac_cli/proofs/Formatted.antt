@@ -26,6 +26,10 @@ failure_comes options path errors.ReadOnly before after fails = same_comes optio
 failure_comes options path errors.NotAFile before after fails = same_comes options path errors.NotAFile before after (λ e. cc) fails
 failure_comes options path errors.ChangedMeanwhile before after fails = same_comes options path errors.ChangedMeanwhile before after (λ e. cc) fails
 failure_comes options path errors.NameNotUtf8 before after fails = same_comes options path errors.NameNotUtf8 before after (λ e. cc) fails
+failure_comes options path errors.NameTooLong before after fails = same_comes options path errors.NameTooLong before after (λ e. cc) fails
+failure_comes options path (errors.TooLarge most) before after fails = same_comes options path (errors.TooLarge most) before after (λ e. cc) fails
+failure_comes options path (errors.Interrupted kept) before after fails = same_comes options path (errors.Interrupted kept) before after (λ e. cc) fails
+failure_comes options path (errors.HalfWritten kept) before after fails = same_comes options path (errors.HalfWritten kept) before after (λ e. cc) fails
 failure_comes options path (errors.System kind) before after fails = same_comes options path (errors.System kind) before after (λ e. cc) fails
 failure_comes options path errors.OutOfMemory before after fails = memory_comes options path errors.OutOfMemory before after fails
 

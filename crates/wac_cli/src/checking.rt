@@ -9,7 +9,7 @@ use wac_cli_console::{
     Console, InputOptions, Outcome, Report, STDIN, SourceFile, Status, Task, finish, finish_input,
     read_all,
 };
-use wac_files::{FileError, FileSystem, Found, find_files};
+use wac_files::{FileError, FileSystem, Found, Listing, find_all};
 use wac_first_error::{Verdict, first_error};
 
 /// How many errors of a file are told.
@@ -42,7 +42,11 @@ fn check_all<F: FileSystem, O: Write + Drop, E: Write + Drop>(
 ) -> Result<Vec<Outcome>, AllocError>
     ensures { F.replaced files.new ≡ F.replaced files.old }
 {
-    let found = find_files(alloc, files, paths)?;
+    let Listing {
+        files: found,
+        others,
+    } = find_all(alloc, files, paths)?;
+    console.passed_over(alloc, others.as_slice())?;
     check_each(alloc, files, console, report, found.as_slice())
 }
 

@@ -13,7 +13,7 @@ use wac_cli_console::{
     finish_input, read_all,
 };
 use wac_diff::unified;
-use wac_files::{FileError, FileSystem, Found, find_files};
+use wac_files::{FileError, FileSystem, Found, Listing, find_all};
 
 /// Formats the files that paths lead to, or names those that are not tidy.
 ///
@@ -47,7 +47,13 @@ fn format_all<F: FileSystem, O: Write + Drop, E: Write + Drop>(
 ) -> Result<Vec<Outcome>, AllocError>
     ensures { OnlyFormats options (F.replaced files.old) (F.replaced files.new) }
 {
-    let found = find_files(alloc, files, paths)?;
+    let Listing {
+        files: mut found,
+        others,
+    } = find_all(alloc, files, paths)?;
+    // A link that wasn't named may lead to a file that wasn't meant.
+    found.retain(|found| !found.is_link);
+    console.passed_over(alloc, others.as_slice())?;
     format_each(alloc, files, console, options, found.as_slice())
 }
 
@@ -123,6 +129,9 @@ fn format_file<F: FileSystem, O: Write + Drop, E: Write + Drop>(
 ) -> Result<Outcome, FileError>
     ensures { ReturnsOutcome options path.now result (F.replaced files.old) (F.replaced files.new) }
 {
+    if options.action == Action::Write {
+        files.sweep(alloc, path)?;
+    }
     let bytes = files.read(alloc, path)?;
     match Plan::of(alloc, bytes.as_slice(), options)? {
         Plan::Tidy => Ok(Outcome::Good),
@@ -174,8 +183,7 @@ fn show_diff<O: Write + Drop, E: Write + Drop>(
     let mut name = String::new(alloc);
     wac_excerpts::push_shown(&mut name, path)?;
     let diff = unified(alloc, name.as_str(), text, tidy_text)?;
-    console.write(diff.as_bytes());
-    Ok(())
+    console.write_text(alloc, diff.as_str())
 }
 
 /// Formats a reader's text, and writes it to the output; or names it, or shows how it differs, where it isn't tidy. Nothing else is written where all is well.

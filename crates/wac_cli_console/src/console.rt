@@ -7,7 +7,7 @@ use std::alloc::{AllocError, Global};
 use std::io::{ErrorKind, Write};
 use std::string::ToString;
 use wac_diagnostics::{Diagnostic, github, human, json};
-use wac_excerpts::{push_escaped, push_shown};
+use wac_excerpts::{push_carets, push_escaped, push_shown};
 use wac_files::FileError;
 
 /// A writer that is written to until it fails.
@@ -69,26 +69,40 @@ impl<O: Write + Drop, E: Write + Drop> Console<O, E> {
         }
     }
 
-    /// Says whether the output is a terminal, which no byte of control may reach.
+    /// Says whether the output is a terminal, which may take characters of a text for commands.
     pub fn set_on_terminal(&mut self, on_terminal: bool) {
         self.on_terminal = on_terminal;
     }
 
-    /// Writes that a path was passed over, unless the last line is to be left out too.
-    pub fn passed_over(&mut self, alloc: Global, path: &str) -> Result<(), AllocError> {
+    /// Writes which paths were passed over, unless the last line is to be left out too.
+    pub fn passed_over(&mut self, alloc: Global, paths: &[String]) -> Result<(), AllocError> {
         if self.quiet {
             return Ok(());
         }
-        let mut line = String::new(alloc);
-        push_shown(&mut line, path)?;
-        line.push_str(": passed over: neither a file nor a folder\n")?;
-        self.errors.write(line.as_bytes());
+        for path in paths {
+            let mut line = String::new(alloc);
+            push_shown(&mut line, path.as_str())?;
+            line.push_str(": passed over, since it is no file\n")?;
+            self.errors.write(line.as_bytes());
+        }
         Ok(())
     }
 
     /// Writes a text for programs.
     pub fn write(&mut self, text: &[u8]) {
         self.output.write(text);
+    }
+
+    /// Writes a text for programs. A terminal gets what it could take for a command as `cat -v` shows it.
+    pub fn write_text(&mut self, alloc: Global, text: &str) -> Result<(), AllocError> {
+        if !self.on_terminal {
+            self.output.write(text.as_bytes());
+            return Ok(());
+        }
+        let mut shown = String::new(alloc);
+        push_carets(&mut shown, text)?;
+        self.output.write(shown.as_bytes());
+        Ok(())
     }
 
     /// Writes the path of a file, on a line for programs.
@@ -169,6 +183,13 @@ impl<O: Write + Drop, E: Write + Drop> Console<O, E> {
             }
             Err(AllocError) => self.out_of_memory(),
         }
+    }
+
+    /// Says that paths led to no document.
+    pub fn no_document(&mut self) -> Status {
+        self.errors
+            .write(b"error[wac::nothing-to-check]: no document was found\n");
+        Status::Wrong
     }
 
     /// Says that a request for memory failed.

@@ -5,14 +5,20 @@ use crate::outcome::{Outcome, Status, worst};
 use std::alloc::Global;
 use std::io::Write;
 
-/// Writes the last line. Returns the status that files and output lead to.
+/// Writes the last line, and before it that there was no file, if there was none. Returns the status that files and
+/// output lead to.
 pub fn finish<O: Write + Drop, E: Write + Drop>(
     alloc: Global,
     console: &mut Console<O, E>,
     task: Task,
     outcomes: &[Outcome],
 ) -> Status {
-    let status = console.end(alloc, worst(outcomes, task.action()));
+    let status = if outcomes.is_empty() {
+        console.no_document()
+    } else {
+        worst(outcomes, task.action())
+    };
+    let status = console.end(alloc, status);
     status.or(console.last_line(summary(alloc, task, outcomes)))
 }
 

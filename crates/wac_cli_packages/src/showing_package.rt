@@ -41,7 +41,7 @@ pub fn show_package<F: FileSystem, O: Write + Drop, E: Write + Drop>(
         ),
     };
     match status {
-        Ok(status) => status.or(console.output_status()),
+        Ok(status) => console.end(alloc, status),
         Err(AllocError) => console.out_of_memory(),
     }
 }

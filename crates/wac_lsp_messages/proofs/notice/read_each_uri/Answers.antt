@@ -1,5 +1,5 @@
 use Rattle.wac_lsp_messages.proofs.Each.{each_begins, each_ends, each_fails, each_goes_on}
-use Rattle.wac_lsp_messages.proofs.notice.read_each_folder.Goals as goal
+use Rattle.wac_lsp_messages.proofs.notice.read_each_uri.Goals as goal
 
 pub loop-value-init : goal.loop-value-init
 loop-value-init c = rw c.new-all.ensures.items (each_begins _ _ _)

@@ -1,6 +1,6 @@
 use Rattle.std.specs.Prelude.{codes, string_bytes}
 use Rattle.wac_lsp_messages.proofs.Each.{EachSoFar}
-use Rattle.wac_lsp_messages.proofs.notice.read_each_folder.Given as goal
+use Rattle.wac_lsp_messages.proofs.notice.read_each_uri.Given as goal
 use Rattle.wac_lsp_messages.specs.Reading.{text_in}
 
 abbrev pub invariant-loop-value : goal.invariant-loop-value
