@@ -13,7 +13,6 @@ mod planning;
 
 pub use checking::{check_each, check_input, check_paths};
 pub use formatting::{format_each, format_input, format_paths};
-pub use line_ends::line_end_of;
 pub use options::{FormatOptions, LineEnds};
 pub use planning::Plan;
 pub use wac_cli_console::{Action, Console, Outcome, Report, Status};

@@ -2,12 +2,14 @@
 ghost use Rattle.std.specs.Prelude.{◌≡◌};
 
 use crate::options::{Context, Given};
-use crate::supply::{Supply, supply_beside};
+use crate::supply::{Supply, supply_for};
+use crate::tally::Tally;
+use crate::telling::reject;
 use indexmap::IndexMap;
 use std::alloc::{AllocError, Global};
 use std::io::Write;
 use wac_ast::Document;
-use wac_cli_console::{Action, Console, Outcome, SourceFile, Status};
+use wac_cli_console::{Action, Console, SourceFile, Status};
 use wac_diagnostics::Diagnostic;
 use wac_excerpts::push_shown;
 use wac_files::{FileError, FileSystem};
@@ -38,7 +40,7 @@ pub fn list_packages<F: FileSystem, O: Write + Drop, E: Write + Drop>(
     ensures { F.replaced files.new ≡ F.replaced files.old }
 {
     match list_all(alloc, files, console, given, path) {
-        Ok(status) => status.or(console.output_status()),
+        Ok(status) => console.end(alloc, status),
         Err(AllocError) => console.out_of_memory(),
     }
 }
@@ -52,9 +54,10 @@ fn list_all<F: FileSystem, O: Write + Drop, E: Write + Drop>(
 ) -> Result<Status, AllocError>
     ensures { F.replaced files.new ≡ F.replaced files.old }
 {
-    let supply = supply_beside(alloc, files, console, given, path)?;
+    let supply = supply_for(alloc, files, given, path)?;
     let read = files.read(alloc, path);
-    list_supplied(console, &supply, supply.context(alloc, given), path, read)
+    let context = supply.context(alloc, given.report);
+    list_supplied(console, &supply, context, path, read)
 }
 
 /// The same of what was read, with the packages.
@@ -65,23 +68,19 @@ fn list_supplied<O: Write + Drop, E: Write + Drop>(
     path: &str,
     read: Result<Vec<u8>, FileError>,
 ) -> Result<Status, AllocError> {
-    match read {
-        Ok(bytes) => list_read(console, supply, context, path, bytes.as_slice()),
-        Err(error) => supply.fail(console, context, path, error),
-    }
-}
-
-/// The same of bytes.
-fn list_read<O: Write + Drop, E: Write + Drop>(
-    console: &mut Console<O, E>,
-    supply: &Supply,
-    context: Context<'_>,
-    path: &str,
-    bytes: &[u8],
-) -> Result<Status, AllocError> {
-    let before = supply.report_all(console, context)?;
-    let status = list_bytes(console, context, path, bytes)?;
-    Ok(before.or(status))
+    let mut tally = Tally::new(context.alloc);
+    supply.begin(console, context, &mut tally)?;
+    let status = match read {
+        Ok(bytes) => {
+            supply.tell_mentioned(console, context, &mut tally, bytes.as_slice())?;
+            list_bytes(console, context, path, bytes.as_slice())?
+        }
+        Err(error) => {
+            let outcome = console.failed(context.alloc, context.report, path, error);
+            outcome.status(Action::Check)
+        }
+    };
+    Ok(status.or(tally.status()))
 }
 
 /// Writes the lines of the document of bytes, or reports what is wrong with them.
@@ -102,8 +101,8 @@ fn list_bytes<O: Write + Drop, E: Write + Drop>(
         }
         Ok(Listed::Rejected(diagnostic)) => {
             let file = SourceFile { path, text: bytes };
-            console.report(context.alloc, context.report, &file, &diagnostic)?;
-            Ok(Outcome::Rejected.status(Action::Check))
+            let outcome = reject(console, context, &file, &diagnostic)?;
+            Ok(outcome.status(Action::Check))
         }
         Err(_) => Err(AllocError),
     }

@@ -8,9 +8,11 @@ use wac_package_errors::KnownPackages;
 pub struct Given<'g> {
     /// Files with documents that declare packages, files of components, and folders of both.
     pub packages: &'g [&'g str],
-    /// Names of packages, with their versions, each with the path of its component.
+    /// Whether packages are looked for in the folders named `deps` and `packages` too, by the place of a document.
+    pub with_defaults: bool,
+    /// Names of packages, with their versions, each with the path of its component, which is taken before all others.
     pub components: &'g [(&'g str, &'g str)],
-    /// Whether a package may be declared and have a component, if the two agree.
+    /// Whether a package may have several files, if they agree.
     pub may_agree: bool,
     /// Names of packages, with their versions, each with the world that is chosen. Of two worlds of a package the last
     /// is.

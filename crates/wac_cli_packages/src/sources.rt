@@ -1,60 +1,47 @@
 // Files of packages: which are read, and what they hold.
 ghost use Rattle.std.specs.Prelude.{◌≡◌};
 
-use crate::options::Given;
+use crate::faults::{Cause, PackageFault};
 use crate::reading::{Source, read_source};
 use std::alloc::{AllocError, Global};
 use std::collections::BTreeSet;
-use std::io::Write;
-use wac_cli_console::{Console, Outcome, Report};
-use wac_component_packages::is_component_file;
+use wac_component_packages::{is_component_file, place_of};
 use wac_files::{FileSystem, Found, find_files};
+use wac_package_errors::Declared;
 
-/// The documents that were read, each with the name of its file, and what became of the files that weren't.
+/// Where a file comes from.
+#[derive(Drop)]
+pub(crate) struct Origin {
+    /// The one path without links that leads to it.
+    pub(crate) place: String,
+    /// Whether it was named, and not found in a folder.
+    pub(crate) is_named: bool,
+    /// Whether a package is declared there.
+    pub(crate) is_declared: bool,
+}
+
+/// The documents that were read, each with the name of its file, and what is wrong with files that couldn't be.
 #[derive(Drop)]
 pub(crate) struct Sources {
     pub(crate) names: Vec<String>,
     pub(crate) texts: Vec<String>,
-    pub(crate) outcomes: Vec<Outcome>,
+    pub(crate) origins: Vec<Origin>,
+    pub(crate) faults: Vec<PackageFault>,
 }
 
-/// Files that may hold documents of packages, and the resolved paths of those that are checked.
-#[derive(Clone, Copy)]
-struct Candidates<'c> {
-    found: &'c [Found],
-    checked: &'c BTreeSet<String>,
-}
-
-/// The resolved paths of files.
-fn resolved<F: FileSystem>(
+/// Where paths lead, without links.
+fn places_of<F: FileSystem>(
     alloc: Global,
     files: &mut F,
-    found: &[Found],
+    paths: &[&str],
 ) -> Result<BTreeSet<String>, AllocError>
     ensures { F.replaced files.new ≡ F.replaced files.old }
 {
-    let mut paths = BTreeSet::new(alloc);
-    for one in found {
-        if let Ok(path) = files.resolve(alloc, one.path.as_str()) {
-            paths.insert(path)?;
-        }
+    let mut places = BTreeSet::new(alloc);
+    for path in paths {
+        places.insert(place_of(alloc, files, path)?)?;
     }
-    Ok(paths)
-}
-
-/// Whether a path leads to one of these files.
-fn is_among<F: FileSystem>(
-    alloc: Global,
-    files: &mut F,
-    path: &str,
-    paths: &BTreeSet<String>,
-) -> bool
-    ensures { F.replaced files.new ≡ F.replaced files.old }
-{
-    match files.resolve(alloc, path) {
-        Ok(path) => paths.contains(path.as_str()),
-        Err(_) => false,
-    }
+    Ok(places)
 }
 
 /// The paths that aren't those of components' files.
@@ -68,71 +55,109 @@ fn without_components<'p>(alloc: Global, paths: &[&'p str]) -> Result<Vec<&'p st
     Ok(documents)
 }
 
-/// The documents that the paths of packages lead to, without the files that are checked.
-pub(crate) fn read_sources<F: FileSystem, O: Write + Drop, E: Write + Drop>(
+/// The documents that the paths of packages lead to.
+pub(crate) fn read_sources<F: FileSystem>(
     alloc: Global,
     files: &mut F,
-    console: &mut Console<O, E>,
-    given: Given<'_>,
-    checked: &[Found],
+    paths: &[&str],
 ) -> Result<Sources, AllocError>
     ensures { F.replaced files.new ≡ F.replaced files.old }
 {
-    let checked = resolved(alloc, files, checked)?;
-    let documents = without_components(alloc, given.packages)?;
+    let documents = without_components(alloc, paths)?;
+    let named = places_of(alloc, files, documents.as_slice())?;
     let found = find_files(alloc, files, documents.as_slice())?;
-    let candidates = Candidates {
-        found: found.as_slice(),
-        checked: &checked,
-    };
-    read_each(alloc, files, console, given.report, candidates)
+    read_each(alloc, files, found.as_slice(), &named)
 }
 
-/// The documents of files, without those that are checked.
-fn read_each<F: FileSystem, O: Write + Drop, E: Write + Drop>(
+/// The documents of files. Some places were named.
+fn read_each<F: FileSystem>(
     alloc: Global,
     files: &mut F,
-    console: &mut Console<O, E>,
-    report: Report,
-    candidates: Candidates<'_>,
+    found: &[Found],
+    named: &BTreeSet<String>,
 ) -> Result<Sources, AllocError>
     ensures { F.replaced files.new ≡ F.replaced files.old }
 {
-    let mut sources = Sources::new(alloc);
-    for one in candidates.found {
-        if !is_among(alloc, files, one.path.as_str(), candidates.checked) {
-            let source = read_source(alloc, files, console, report, one)?;
-            sources.add(alloc, one.path.as_str(), source)?;
-        }
+    let mut sources = Sources {
+        names: Vec::new(alloc),
+        texts: Vec::new(alloc),
+        origins: Vec::new(alloc),
+        faults: Vec::new(alloc),
+    };
+    for one in found {
+        sources.read(alloc, files, one, named)?;
     }
     Ok(sources)
 }
 
 impl Sources {
-    fn new(alloc: Global) -> Self {
-        Sources {
-            names: Vec::new(alloc),
-            texts: Vec::new(alloc),
-            outcomes: Vec::new(alloc),
-        }
-    }
-
-    /// Adds what was read of a file.
-    fn add(&mut self, alloc: Global, path: &str, source: Source) -> Result<(), AllocError> {
-        match source {
-            Source::Text(text) => self.add_text(alloc, path, text),
-            Source::Nothing(outcome) => {
-                self.outcomes.push(outcome)?;
-                Ok(())
+    /// Reads a file that was found.
+    fn read<F: FileSystem>(
+        &mut self,
+        alloc: Global,
+        files: &mut F,
+        found: &Found,
+        named: &BTreeSet<String>,
+    ) -> Result<(), AllocError>
+        ensures { F.replaced files.new ≡ F.replaced files.old }
+    {
+        let place = place_of(alloc, files, found.path.as_str())?;
+        let origin = Origin {
+            is_named: named.contains(place.as_str()),
+            is_declared: false,
+            place,
+        };
+        match read_source(alloc, files, found) {
+            Ok(Source::Text(text)) => self.add_text(alloc, found.path.as_str(), origin, text),
+            Ok(Source::Nothing(cause)) => {
+                self.add_fault(alloc, found.path.as_str(), origin, cause)
             }
+            Err(_) => Err(AllocError),
         }
     }
 
     /// Adds the text of a file.
-    fn add_text(&mut self, alloc: Global, path: &str, text: String) -> Result<(), AllocError> {
-        self.texts.push(text)?;
+    fn add_text(
+        &mut self,
+        alloc: Global,
+        path: &str,
+        origin: Origin,
+        text: String,
+    ) -> Result<(), AllocError> {
         self.names.push(String::from_str(alloc, path)?)?;
+        self.texts.push(text)?;
+        self.origins.push(origin)?;
         Ok(())
+    }
+
+    /// Adds why a file has no text.
+    fn add_fault(
+        &mut self,
+        alloc: Global,
+        path: &str,
+        origin: Origin,
+        cause: Cause,
+    ) -> Result<(), AllocError> {
+        let Origin {
+            place, is_named, ..
+        } = origin;
+        self.faults.push(PackageFault {
+            path: String::from_str(alloc, path)?,
+            place,
+            is_named,
+            key: None,
+            cause,
+        })?;
+        Ok(())
+    }
+
+    /// Notes which of the documents declare packages.
+    pub(crate) fn note_declared(&mut self, declared: &Declared) {
+        for (key, number) in declared.texts.iter() {
+            if let Some(origin) = self.origins.get_mut(*number) {
+                origin.is_declared = declared.packages.contains_key(key);
+            }
+        }
     }
 
     /// The documents.

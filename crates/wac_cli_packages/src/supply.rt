@@ -1,343 +1,312 @@
 // The packages of files, declared by documents or read from components, and what is wrong with these files.
 ghost use Rattle.std.specs.Prelude.{◌≡◌};
 
+use crate::declarations::{declare, declared_faults};
+use crate::faults::{PackageFault, is_text_of};
 use crate::options::{Context, Given};
 use crate::sources::{Sources, read_sources};
-use indexmap::IndexMap;
 use std::alloc::{AllocError, Global};
-use std::io::Write;
-use wac_cli_console::{Action, Console, Outcome, SourceFile, Status};
-use wac_component_packages::{Components, Sought, Supplied, read_components, supply_components};
-use wac_files::{FileError, FileSystem, Found, find_files};
-use wac_graph::PackageKey;
-use wac_package_errors::{
-    DeclarationFault, Declared, KnownPackages, declaration_diagnostic, declare_all,
+use wac_cli_console::Report;
+use wac_component_packages::{
+    Added, ComponentFault, ComponentSource, Components, Precedence, Sought, Supplied,
+    default_folders, folder_of, read_components, supply_components,
 };
-use wac_package_names::key_named;
+use wac_files::FileSystem;
+use wac_package_errors::{Declared, KnownPackages, Searched};
 
-/// The packages of files, with the documents among these, and what became of each file.
+/// The packages of files, with the documents among these, and what is wrong with the others.
 #[derive(Drop)]
 pub(crate) struct Supply {
-    sources: Sources,
-    declared: Declared,
-    outcomes: Vec<Outcome>,
+    /// A number that no other supply of the run has.
+    pub(crate) number: usize,
+    pub(crate) sources: Sources,
+    pub(crate) declared: Declared,
+    /// The components with packages.
+    pub(crate) good: Vec<ComponentSource>,
+    /// The files and folders that were looked at.
+    searched: Vec<String>,
+    /// The components in these folders from whose paths no name of a package follows.
+    misplaced: Vec<String>,
 }
 
-/// The packages of the files that are given, without those that are checked. What can't be read is reported.
-pub(crate) fn read_supply<F: FileSystem, O: Write + Drop, E: Write + Drop>(
+/// The files that were read.
+#[derive(Drop)]
+struct Read {
+    sources: Sources,
+    /// The components that were found, and those that were named with their packages.
+    found: Components,
+    chosen: Components,
+}
+
+/// The packages for the document at a path.
+pub(crate) fn supply_for<F: FileSystem>(
     alloc: Global,
     files: &mut F,
-    console: &mut Console<O, E>,
-    given: Given<'_>,
-    checked: &[Found],
-) -> Result<Supply, AllocError>
-    ensures { F.replaced files.new ≡ F.replaced files.old }
-{
-    match read_sources(alloc, files, console, given, checked) {
-        Ok(sources) => read_beside(alloc, files, console, given, sources),
-        Err(_) => Err(AllocError),
-    }
-}
-
-/// The packages of documents and of components. What is wrong with a component is reported.
-fn read_beside<F: FileSystem, O: Write + Drop, E: Write + Drop>(
-    alloc: Global,
-    files: &mut F,
-    console: &mut Console<O, E>,
-    given: Given<'_>,
-    sources: Sources,
-) -> Result<Supply, AllocError>
-    ensures { F.replaced files.new ≡ F.replaced files.old }
-{
-    match read_components(alloc, files, console, sought(given)) {
-        Ok(components) => supply_both(alloc, console, given, sources, components),
-        Err(_) => Err(AllocError),
-    }
-}
-
-/// Where components are.
-fn sought(given: Given<'_>) -> Sought<'_> {
-    Sought {
-        paths: given.packages,
-        named: given.components,
-        worlds: given.worlds,
-        report: given.report,
-    }
-}
-
-/// The packages of documents, and those of components that were read.
-fn supply_both<O: Write + Drop, E: Write + Drop>(
-    alloc: Global,
-    console: &mut Console<O, E>,
-    given: Given<'_>,
-    sources: Sources,
-    components: Components,
-) -> Result<Supply, AllocError> {
-    match declared_supply(alloc, given, sources) {
-        Ok(supply) => add_components(alloc, console, given, supply, components),
-        Err(_) => Err(AllocError),
-    }
-}
-
-/// The packages that documents declare.
-fn declared_supply(
-    alloc: Global,
-    given: Given<'_>,
-    sources: Sources,
-) -> Result<Supply, AllocError> {
-    match declare(alloc, &sources, given.worlds) {
-        Ok(declared) => Supply::new(alloc, sources, declared),
-        Err(_) => Err(AllocError),
-    }
-}
-
-/// The supply with the packages of components. What is wrong with one is reported.
-fn add_components<O: Write + Drop, E: Write + Drop>(
-    alloc: Global,
-    console: &mut Console<O, E>,
-    given: Given<'_>,
-    supply: Supply,
-    components: Components,
-) -> Result<Supply, AllocError> {
-    let Supply {
-        sources,
-        declared,
-        outcomes,
-    } = supply;
-    let Sources {
-        mut names,
-        texts,
-        outcomes: read,
-    } = sources;
-    let Declared {
-        mut packages,
-        texts: mut files,
-        faults,
-    } = declared;
-    let added = {
-        let mut supplied = Supplied {
-            packages: &mut packages,
-            files: &mut files,
-            names: &mut names,
-            may_agree: given.may_agree,
-        };
-        supply_components(alloc, console, given.report, components, &mut supplied)
-    };
-    let sources = Sources {
-        names,
-        texts,
-        outcomes: read,
-    };
-    let declared = Declared {
-        packages,
-        texts: files,
-        faults,
-    };
-    let supply = Supply {
-        sources,
-        declared,
-        outcomes,
-    };
-    match added {
-        Ok(added) => supply.with_outcomes(added.as_slice()),
-        Err(_) => Err(AllocError),
-    }
-}
-
-/// The same, without the file at a path.
-pub(crate) fn supply_beside<F: FileSystem, O: Write + Drop, E: Write + Drop>(
-    alloc: Global,
-    files: &mut F,
-    console: &mut Console<O, E>,
     given: Given<'_>,
     path: &str,
 ) -> Result<Supply, AllocError>
     ensures { F.replaced files.new ≡ F.replaced files.old }
 {
-    let found = find_files(alloc, files, &[path])?;
-    read_supply(alloc, files, console, given, found.as_slice())
+    let folders = folders_for(alloc, files, given, folder_of(path))?;
+    read_supply(alloc, files, given, folders.as_slice(), 0)
 }
 
-/// What became of the files, in no order.
-fn outcomes_of(
+/// The folders in which packages are looked for beside those that are named, for the documents in a folder.
+pub(crate) fn folders_for<F: FileSystem>(
     alloc: Global,
-    sources: &Sources,
-    declared: &Declared,
-) -> Result<Vec<Outcome>, AllocError> {
-    let mut outcomes = Vec::with_capacity(alloc, sources.texts.len())?;
-    outcomes.extend_from_slice(sources.outcomes.as_slice())?;
-    let faults = declared.faults.len();
-    let well = faults.saturating_add(declared.packages.len());
-    for text in 0..sources.texts.len() {
-        outcomes.push(outcome_of(text, faults, well))?;
-    }
-    Ok(outcomes)
-}
-
-/// What became of a text: those with a fault are counted first, then those that declare a package.
-fn outcome_of(text: usize, faults: usize, well: usize) -> Outcome {
-    if text < faults {
-        Outcome::Rejected
-    } else if text < well {
-        Outcome::Good
+    files: &mut F,
+    given: Given<'_>,
+    folder: &str,
+) -> Result<Vec<String>, AllocError>
+    ensures { F.replaced files.new ≡ F.replaced files.old }
+{
+    if given.with_defaults {
+        default_folders(alloc, files, folder)
     } else {
-        Outcome::Unresolved
+        Ok(Vec::new(alloc))
     }
 }
 
-/// The packages that documents declare.
-fn declare(
+/// The packages of the files that are given, and of those in folders.
+pub(crate) fn read_supply<F: FileSystem>(
     alloc: Global,
-    sources: &Sources,
-    worlds: &[(&str, &str)],
-) -> Result<Declared, AllocError> {
-    let worlds = chosen(alloc, worlds)?;
-    declare_with(alloc, sources, &worlds)
-}
-
-/// The same with the chosen worlds.
-fn declare_with(
-    alloc: Global,
-    sources: &Sources,
-    worlds: &IndexMap<PackageKey, String>,
-) -> Result<Declared, AllocError> {
-    let texts = sources.all(alloc)?;
-    declare_all(alloc, texts.as_slice(), worlds)
-}
-
-/// The chosen worlds, by their packages. Of two for one package the last is chosen.
-fn chosen(
-    alloc: Global,
-    worlds: &[(&str, &str)],
-) -> Result<IndexMap<PackageKey, String>, AllocError> {
-    let mut all = IndexMap::new(alloc);
-    for (package, world) in worlds {
-        choose(alloc, &mut all, package, world)?;
+    files: &mut F,
+    given: Given<'_>,
+    folders: &[String],
+    number: usize,
+) -> Result<Supply, AllocError>
+    ensures { F.replaced files.new ≡ F.replaced files.old }
+{
+    let paths = all_paths(alloc, given.packages, folders)?;
+    match read_all(alloc, files, given, paths.as_slice()) {
+        Ok(read) => supply_of(alloc, given, paths.as_slice(), read, number),
+        Err(_) => Err(AllocError),
     }
-    Ok(all)
 }
 
-/// Adds the world of a package.
-fn choose(
+/// The paths that are looked at, each once.
+fn all_paths<'p>(
     alloc: Global,
-    all: &mut IndexMap<PackageKey, String>,
-    package: &str,
-    world: &str,
-) -> Result<(), AllocError> {
-    let world = String::from_str(alloc, world)?;
-    let key = key_named(alloc, package)?;
-    all.insert(key, world)?;
-    Ok(())
+    given: &[&'p str],
+    folders: &'p [String],
+) -> Result<Vec<&'p str>, AllocError> {
+    let mut paths = Vec::new(alloc);
+    paths.extend_from_slice(given)?;
+    for folder in folders {
+        let folder = folder.as_str();
+        if !paths.as_slice().iter().any(|path| *path == folder) {
+            paths.push(folder)?;
+        }
+    }
+    Ok(paths)
 }
 
-/// A text by its number.
-fn text_at(texts: &[String], number: usize) -> &str {
-    match texts.get(number) {
-        Some(text) => text.as_str(),
-        None => "",
+/// Reads the documents and the components.
+fn read_all<F: FileSystem>(
+    alloc: Global,
+    files: &mut F,
+    given: Given<'_>,
+    paths: &[&str],
+) -> Result<Read, AllocError>
+    ensures { F.replaced files.new ≡ F.replaced files.old }
+{
+    match read_sources(alloc, files, paths) {
+        Ok(sources) => read_beside(alloc, files, given, paths, sources),
+        Err(_) => Err(AllocError),
+    }
+}
+
+/// Reads the components.
+fn read_beside<F: FileSystem>(
+    alloc: Global,
+    files: &mut F,
+    given: Given<'_>,
+    paths: &[&str],
+    sources: Sources,
+) -> Result<Read, AllocError>
+    ensures { F.replaced files.new ≡ F.replaced files.old }
+{
+    match read_components(alloc, files, sought(given, paths, &[])) {
+        Ok(found) => match read_components(alloc, files, sought(given, &[], given.components)) {
+            Ok(chosen) => Ok(Read {
+                sources,
+                found,
+                chosen,
+            }),
+            Err(_) => Err(AllocError),
+        },
+        Err(_) => Err(AllocError),
+    }
+}
+
+/// Where components are.
+fn sought<'g>(
+    given: Given<'g>,
+    paths: &'g [&'g str],
+    named: &'g [(&'g str, &'g str)],
+) -> Sought<'g> {
+    Sought {
+        paths,
+        named,
+        worlds: given.worlds,
+        may_agree: given.may_agree,
+    }
+}
+
+/// The supply of files that were read.
+fn supply_of(
+    alloc: Global,
+    given: Given<'_>,
+    paths: &[&str],
+    read: Read,
+    number: usize,
+) -> Result<Supply, AllocError> {
+    let Read {
+        sources,
+        found,
+        chosen,
+    } = read;
+    match declared_supply(alloc, given, sources, number) {
+        Ok(supply) => {
+            let rule = if given.may_agree {
+                Precedence::Agree
+            } else {
+                Precedence::Conflict
+            };
+            let supply = supply.with_components(alloc, found, rule)?;
+            let supply = supply.with_components(alloc, chosen, Precedence::Component)?;
+            supply.ended(alloc, given, paths)
+        }
+        Err(_) => Err(AllocError),
+    }
+}
+
+/// The supply of the packages that documents declare.
+fn declared_supply(
+    alloc: Global,
+    given: Given<'_>,
+    mut sources: Sources,
+    number: usize,
+) -> Result<Supply, AllocError> {
+    let declared = match declare(alloc, &sources, given.worlds) {
+        Ok(declared) => declared,
+        Err(_) => return Err(AllocError),
+    };
+    sources.note_declared(&declared);
+    Ok(Supply {
+        number,
+        sources,
+        declared,
+        good: Vec::new(alloc),
+        searched: Vec::new(alloc),
+        misplaced: Vec::new(alloc),
+    })
+}
+
+/// Whether a fault is that of a file in whose place another one is taken, which was named with the package.
+fn is_lost(fault: &PackageFault, chosen: &[(&str, &str)]) -> bool {
+    if fault.is_named && !fault.is_conflict() {
+        return false;
+    }
+    match &fault.key {
+        None => false,
+        Some(key) => chosen.iter().any(|(name, _)| is_text_of(name, key)),
     }
 }
 
 impl Supply {
-    /// The supply of documents, with what they declare and what became of their files.
-    fn new(alloc: Global, sources: Sources, declared: Declared) -> Result<Supply, AllocError> {
-        match outcomes_of(alloc, &sources, &declared) {
-            Ok(outcomes) => Ok(Supply {
-                sources,
-                declared,
-                outcomes,
-            }),
-            Err(_) => Err(AllocError),
-        }
-    }
-
-    /// The supply with what became of more files.
-    fn with_outcomes(mut self, more: &[Outcome]) -> Result<Supply, AllocError> {
-        match self.outcomes.extend_from_slice(more) {
+    /// The supply with the packages of components.
+    fn with_components(
+        mut self,
+        alloc: Global,
+        components: Components,
+        rule: Precedence,
+    ) -> Result<Supply, AllocError> {
+        match self.add(alloc, components, rule) {
             Ok(()) => Ok(self),
             Err(_) => Err(AllocError),
         }
     }
 
+    /// Adds the packages of components.
+    fn add(
+        &mut self,
+        alloc: Global,
+        mut components: Components,
+        rule: Precedence,
+    ) -> Result<(), AllocError> {
+        self.misplaced.append(&mut components.misplaced)?;
+        let mut supplied = Supplied {
+            packages: &mut self.declared.packages,
+            files: &mut self.declared.texts,
+            names: &mut self.sources.names,
+            rule,
+        };
+        match supply_components(alloc, components, &mut supplied) {
+            Ok(added) => self.keep(alloc, added),
+            Err(_) => Err(AllocError),
+        }
+    }
+
+    /// Keeps what became of components.
+    fn keep(&mut self, alloc: Global, added: Added) -> Result<(), AllocError> {
+        let Added { mut good, faults } = added;
+        self.good.append(&mut good)?;
+        self.keep_faults(alloc, faults)
+    }
+
+    /// Keeps what is wrong with components.
+    fn keep_faults(
+        &mut self,
+        alloc: Global,
+        faults: Vec<ComponentFault>,
+    ) -> Result<(), AllocError> {
+        for fault in faults {
+            self.sources
+                .faults
+                .push(PackageFault::of_component(alloc, fault)?)?;
+        }
+        Ok(())
+    }
+
+    /// The supply with what is wrong with its documents, and without the faults of files in whose place others are taken.
+    fn ended(
+        mut self,
+        alloc: Global,
+        given: Given<'_>,
+        paths: &[&str],
+    ) -> Result<Supply, AllocError> {
+        match self.end(alloc, given, paths) {
+            Ok(()) => Ok(self),
+            Err(_) => Err(AllocError),
+        }
+    }
+
+    fn end(&mut self, alloc: Global, given: Given<'_>, paths: &[&str]) -> Result<(), AllocError> {
+        for path in paths {
+            self.searched.push(String::from_str(alloc, path)?)?;
+        }
+        let mut faults = declared_faults(alloc, &self.sources, &self.declared)?;
+        self.sources.faults.append(&mut faults)?;
+        self.sources
+            .faults
+            .retain(|fault| !is_lost(fault, given.components));
+        Ok(())
+    }
+
     /// What is known with these packages.
-    pub(crate) fn context(&self, alloc: Global, given: Given<'_>) -> Context<'_> {
+    pub(crate) fn context(&self, alloc: Global, report: Report) -> Context<'_> {
         Context {
             alloc,
-            report: given.report,
+            report,
             known: KnownPackages {
                 declared: &self.declared,
                 names: self.sources.names.as_slice(),
+                searched: Searched::Paths {
+                    paths: self.searched.as_slice(),
+                    misplaced: self.misplaced.as_slice(),
+                },
             },
         }
     }
-
-    /// The fault of a text, if it has one.
-    fn fault(&self, text: usize) -> Option<&DeclarationFault> {
-        for fault in self.declared.faults.as_slice() {
-            if fault.text == text {
-                return Some(fault);
-            }
-        }
-        None
-    }
-
-    /// Reports each fault, in the order of the texts. Returns the status that the files lead to.
-    pub(crate) fn report_all<O: Write + Drop, E: Write + Drop>(
-        &self,
-        console: &mut Console<O, E>,
-        context: Context<'_>,
-    ) -> Result<Status, AllocError> {
-        for text in 0..self.sources.texts.len() {
-            if let Some(fault) = self.fault(text) {
-                self.report(console, context, fault)?;
-            }
-        }
-        Ok(worst(self.outcomes.as_slice()))
-    }
-
-    /// Reports a fault.
-    fn report<O: Write + Drop, E: Write + Drop>(
-        &self,
-        console: &mut Console<O, E>,
-        context: Context<'_>,
-        fault: &DeclarationFault,
-    ) -> Result<(), AllocError> {
-        let path = text_at(self.sources.names.as_slice(), fault.text);
-        let text = text_at(self.sources.texts.as_slice(), fault.text);
-        let diagnostic = declaration_diagnostic(context.alloc, text, &fault.error, context.known)?;
-        let file = SourceFile {
-            path,
-            text: text.as_bytes(),
-        };
-        console.report(context.alloc, context.report, &file, &diagnostic)
-    }
-
-    /// Reports each fault, and that the file at a path can't be read.
-    pub(crate) fn fail<O: Write + Drop, E: Write + Drop>(
-        &self,
-        console: &mut Console<O, E>,
-        context: Context<'_>,
-        path: &str,
-        error: FileError,
-    ) -> Result<Status, AllocError> {
-        let before = self.report_all(console, context)?;
-        let outcome = console.failed(context.alloc, context.report, path, error);
-        Ok(before.or(outcome.status(Action::Check)))
-    }
-
-    /// What became of the files, in no order.
-    pub(crate) fn outcomes(&self, alloc: Global) -> Result<Vec<Outcome>, AllocError> {
-        let mut outcomes = Vec::with_capacity(alloc, self.outcomes.len())?;
-        outcomes.extend_from_slice(self.outcomes.as_slice())?;
-        Ok(outcomes)
-    }
-}
-
-/// The status that outcomes lead to.
-fn worst(outcomes: &[Outcome]) -> Status {
-    let mut status = Status::Well;
-    for outcome in outcomes {
-        status = status.or(outcome.status(Action::Check));
-    }
-    status
 }

@@ -3,11 +3,14 @@ ghost use Rattle.std.specs.Prelude.{◌≡◌};
 
 use crate::options::{Context, Given};
 use crate::requests::TargetRequest;
-use crate::supply::{Supply, supply_beside};
-use crate::worlds::{Wanted, wanted_world};
+use crate::supply::{Supply, supply_for};
+use crate::tally::Tally;
+use crate::telling::reject;
+use crate::verdicts::first_error_of;
+use crate::worlds::{Wanted, wanted_of};
 use std::alloc::{AllocError, Global};
 use std::io::Write;
-use wac_cli_console::{Action, Console, Outcome, SourceFile, Status};
+use wac_cli_console::{Action, Console, SourceFile, Status};
 use wac_component_reading::{Converted, component_package, misfit};
 use wac_diagnostics::Diagnostic;
 use wac_files::{FileError, FileSystem};
@@ -18,6 +21,13 @@ use wac_graph::Package;
 struct Read {
     component: Result<Vec<u8>, FileError>,
     document: Result<Vec<u8>, FileError>,
+}
+
+/// A document, and the world that is wanted of it.
+#[derive(Drop)]
+struct World {
+    document: Vec<u8>,
+    wanted: Wanted,
 }
 
 /// Reports whether a component fits a world: nothing is written where it does, and else the first place where it
@@ -36,7 +46,7 @@ pub fn check_target<F: FileSystem, O: Write + Drop, E: Write + Drop>(
     ensures { F.replaced files.new ≡ F.replaced files.old }
 {
     match check_all(alloc, files, console, given, request) {
-        Ok(status) => status.or(console.output_status()),
+        Ok(status) => console.end(alloc, status),
         Err(AllocError) => console.out_of_memory(),
     }
 }
@@ -50,20 +60,15 @@ fn check_all<F: FileSystem, O: Write + Drop, E: Write + Drop>(
 ) -> Result<Status, AllocError>
     ensures { F.replaced files.new ≡ F.replaced files.old }
 {
-    let supply = supply_beside(alloc, files, console, given, request.document)?;
+    let supply = supply_for(alloc, files, given, request.document)?;
     let component = files.read(alloc, request.component);
     let document = files.read(alloc, request.document);
     let read = Read {
         component,
         document,
     };
-    check_supplied(
-        console,
-        &supply,
-        supply.context(alloc, given),
-        request,
-        read,
-    )
+    let context = supply.context(alloc, given.report);
+    check_supplied(console, &supply, context, request, read)
 }
 
 /// The same of what was read, with the packages.
@@ -74,55 +79,50 @@ fn check_supplied<O: Write + Drop, E: Write + Drop>(
     request: TargetRequest<'_>,
     read: Read,
 ) -> Result<Status, AllocError> {
-    let before = supply.report_all(console, context)?;
-    let status = check_read(console, context, request, read)?;
-    Ok(before.or(status))
-}
-
-/// The same of what was read. Failures are reported.
-fn check_read<O: Write + Drop, E: Write + Drop>(
-    console: &mut Console<O, E>,
-    context: Context<'_>,
-    request: TargetRequest<'_>,
-    read: Read,
-) -> Result<Status, AllocError> {
     let Read {
         component,
         document,
     } = read;
-    match component {
-        Ok(component) => check_beside(console, context, request, component.as_slice(), document),
-        Err(error) => {
-            let status = fail(console, context, request.component, error);
-            Ok(status.or(status_of(console, context, request.document, document)))
+    let mut tally = Tally::new(context.alloc);
+    supply.begin(console, context, &mut tally)?;
+    let status = match document {
+        Ok(document) => {
+            let found = first_error_of(console, supply, context, &mut tally, document.as_slice());
+            let wanted = wanted_of(context.alloc, found?, request.world)?;
+            let world = World { document, wanted };
+            check_world(console, context, request, component, world)?
         }
-    }
+        Err(error) => check_alone(console, context, request, component, error),
+    };
+    Ok(status.or(tally.status()))
 }
 
-/// Compares the component that bytes are with the world of the document that was read.
-fn check_beside<O: Write + Drop, E: Write + Drop>(
+/// Reports what can't be read, which the document is.
+fn check_alone<O: Write + Drop, E: Write + Drop>(
     console: &mut Console<O, E>,
     context: Context<'_>,
     request: TargetRequest<'_>,
-    component: &[u8],
-    document: Result<Vec<u8>, FileError>,
-) -> Result<Status, AllocError> {
-    match document {
-        Ok(document) => check_bytes(console, context, request, component, document.as_slice()),
-        Err(error) => Ok(fail(console, context, request.document, error)),
-    }
+    component: Result<Vec<u8>, FileError>,
+    error: FileError,
+) -> Status {
+    let status = match component {
+        Ok(_) => Status::Well,
+        Err(error) => fail(console, context, request.component, error),
+    };
+    status.or(fail(console, context, request.document, error))
 }
 
-/// The status of what was read of a file. A failure is reported.
-fn status_of<O: Write + Drop, E: Write + Drop>(
+/// Compares the component that was read with a world.
+fn check_world<O: Write + Drop, E: Write + Drop>(
     console: &mut Console<O, E>,
     context: Context<'_>,
-    path: &str,
-    read: Result<Vec<u8>, FileError>,
-) -> Status {
-    match read {
-        Ok(_) => Status::Well,
-        Err(error) => fail(console, context, path, error),
+    request: TargetRequest<'_>,
+    component: Result<Vec<u8>, FileError>,
+    world: World,
+) -> Result<Status, AllocError> {
+    match component {
+        Ok(component) => check_bytes(console, context, request, component.as_slice(), &world),
+        Err(error) => Ok(fail(console, context, request.component, error)),
     }
 }
 
@@ -137,21 +137,21 @@ fn fail<O: Write + Drop, E: Write + Drop>(
     outcome.status(Action::Check)
 }
 
-/// Compares the component that bytes are with the world of the document that other bytes are.
+/// Compares the component that bytes are with a world.
 fn check_bytes<O: Write + Drop, E: Write + Drop>(
     console: &mut Console<O, E>,
     context: Context<'_>,
     request: TargetRequest<'_>,
     component: &[u8],
-    document: &[u8],
+    world: &World,
 ) -> Result<Status, AllocError> {
     match component_package(context.alloc, component, None) {
         Ok(Converted::Package(component)) => {
-            check_component(console, context, request, &component, document)
+            check_component(console, context, request, &component, world)
         }
         Ok(Converted::Rejected(diagnostic)) => {
             reject_component(console, context, request, &diagnostic)?;
-            reject_world(console, context, request, document)
+            reject_world(console, context, request, world)
         }
         Err(_) => Err(AllocError),
     }
@@ -168,69 +168,42 @@ fn reject_component<O: Write + Drop, E: Write + Drop>(
         path: request.component,
         text: b"",
     };
-    reject(console, context, &file, diagnostic)
+    let outcome = reject(console, context, &file, diagnostic)?;
+    Ok(outcome.status(Action::Check))
 }
 
-/// Reports what is wrong with the document of bytes.
-fn reject_document<O: Write + Drop, E: Write + Drop>(
-    console: &mut Console<O, E>,
-    context: Context<'_>,
-    request: TargetRequest<'_>,
-    bytes: &[u8],
-    diagnostic: &Diagnostic,
-) -> Result<Status, AllocError> {
-    let file = SourceFile {
-        path: request.document,
-        text: bytes,
-    };
-    reject(console, context, &file, diagnostic)
-}
-
-/// Compares a component with the world of the document that bytes are.
+/// Compares a component with a world.
 fn check_component<O: Write + Drop, E: Write + Drop>(
     console: &mut Console<O, E>,
     context: Context<'_>,
     request: TargetRequest<'_>,
     component: &Package,
-    bytes: &[u8],
+    world: &World,
 ) -> Result<Status, AllocError> {
-    match wanted_world(context, bytes, request.world) {
-        Ok(Wanted::World(expected, name)) => {
-            let misfit = misfit_of(context.alloc, component, &expected, name.as_str())?;
-            match misfit {
-                None => Ok(Status::Well),
-                Some(found) => reject_component(console, context, request, &found),
-            }
-        }
-        Ok(Wanted::Rejected(found)) => { reject_document(console, context, request, bytes, &found) }
-        Ok(Wanted::Unresolved) => Ok(Status::Wrong),
-        Err(_) => Err(AllocError),
+    let Wanted::World(expected, name) = &world.wanted else {
+        return reject_world(console, context, request, world);
+    };
+    match misfit_of(context.alloc, component, expected, name.as_str())? {
+        None => Ok(Status::Well),
+        Some(found) => reject_component(console, context, request, &found),
     }
 }
 
-/// Reports what is wrong with the document of a world, where the component is wrong too.
+/// Reports what is wrong with the document of a world, if something is. Returns the status where none of it is compared.
 fn reject_world<O: Write + Drop, E: Write + Drop>(
     console: &mut Console<O, E>,
     context: Context<'_>,
     request: TargetRequest<'_>,
-    bytes: &[u8],
+    world: &World,
 ) -> Result<Status, AllocError> {
-    match wanted_world(context, bytes, request.world) {
-        Ok(Wanted::Rejected(found)) => reject_document(console, context, request, bytes, &found),
-        Ok(Wanted::World(_, _)) | Ok(Wanted::Unresolved) => Ok(Status::Wrong),
-        Err(_) => Err(AllocError),
+    if let Wanted::Rejected(diagnostic) = &world.wanted {
+        let file = SourceFile {
+            path: request.document,
+            text: world.document.as_slice(),
+        };
+        reject(console, context, &file, diagnostic)?;
     }
-}
-
-/// Reports what is wrong with a file.
-fn reject<O: Write + Drop, E: Write + Drop>(
-    console: &mut Console<O, E>,
-    context: Context<'_>,
-    file: &SourceFile<'_>,
-    diagnostic: &Diagnostic,
-) -> Result<Status, AllocError> {
-    console.report(context.alloc, context.report, file, diagnostic)?;
-    Ok(Outcome::Rejected.status(Action::Check))
+    Ok(Status::Wrong)
 }
 
 /// Where a component doesn't fit a world, if it doesn't.

@@ -1,11 +1,36 @@
 // What is said of the file that a command has to do.
 use crate::options::Context;
+use crate::supply::Supply;
+use crate::tally::Tally;
 use std::alloc::AllocError;
+use std::io::Write;
+use wac_cli_console::Console;
 use wac_first_error::Reading;
 use wac_package_errors::{Composed, first_error_with, flat_text};
 
-/// The first error of bytes, which are resolved with known packages.
-pub(crate) fn first_error_of(context: Context<'_>, bytes: &[u8]) -> Result<Composed, AllocError> {
+/// The first error of bytes, which are resolved with known packages. What is wrong with the files of packages that they
+/// mention is told before.
+pub(crate) fn first_error_of<O: Write + Drop, E: Write + Drop>(
+    console: &mut Console<O, E>,
+    supply: &Supply,
+    context: Context<'_>,
+    tally: &mut Tally,
+    bytes: &[u8],
+) -> Result<Composed, AllocError> {
+    if supply.has_conflicts() {
+        supply.tell_mentioned(console, context, tally, bytes)?;
+    }
+    match first_error_in(context, bytes) {
+        Ok(Composed::Unresolved) => {
+            supply.tell_mentioned(console, context, tally, bytes)?;
+            Ok(Composed::Unresolved)
+        }
+        found => found,
+    }
+}
+
+/// The first error of bytes.
+fn first_error_in(context: Context<'_>, bytes: &[u8]) -> Result<Composed, AllocError> {
     match flat_text(context.alloc, bytes) {
         Ok(Reading::Text(text)) => first_error_with(context.alloc, text, context.known),
         Ok(Reading::Rejected(diagnostic)) => Ok(Composed::Rejected(diagnostic)),

@@ -1,6 +1,4 @@
 // The world of the document that a component is to fit.
-use crate::options::Context;
-use crate::verdicts::first_error_of;
 use std::alloc::{AllocError, Global};
 use wac_component_reading::with_implied_imports;
 use wac_declared_packages::{DefinitionsError, package_of};
@@ -17,18 +15,16 @@ pub(crate) enum Wanted {
     Unresolved,
 }
 
-/// The world of a document's bytes: the one of that name, or the only one. The document is resolved by the component
-/// model's rules, with known packages.
-pub(crate) fn wanted_world(
-    context: Context<'_>,
-    bytes: &[u8],
+/// The world of a document that was resolved: the one of that name, or the only one.
+pub(crate) fn wanted_of(
+    alloc: Global,
+    found: Composed,
     world: Option<&str>,
 ) -> Result<Wanted, AllocError> {
-    match first_error_of(context, bytes) {
-        Ok(Composed::Resolved(graph)) => wanted_of_graph(context.alloc, &graph, world),
-        Ok(Composed::Rejected(diagnostic)) => Ok(Wanted::Rejected(diagnostic)),
-        Ok(Composed::Unresolved) => Ok(Wanted::Unresolved),
-        Err(_) => Err(AllocError),
+    match found {
+        Composed::Resolved(graph) => wanted_of_graph(alloc, &graph, world),
+        Composed::Rejected(diagnostic) => Ok(Wanted::Rejected(diagnostic)),
+        Composed::Unresolved => Ok(Wanted::Unresolved),
     }
 }
 

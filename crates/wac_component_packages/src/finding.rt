@@ -27,8 +27,9 @@ struct PackageFolders<'f> {
 }
 
 /// The components below a folder, in the order of their names: `namespace/name.wasm` is that of the package
-/// `namespace:name`, and `namespace/name/VERSION.wasm` that of `namespace:name@VERSION`. Other files are left out, and so
-/// are names that begin with a dot, and folders that can't be listed.
+/// `namespace:name`, and `namespace/name/VERSION.wasm` that of `namespace:name@VERSION`. Those in the folder itself have no
+/// key. Other files are left out, and so are names that begin with a dot, links to folders, and folders that can't be
+/// listed.
 pub fn find_components<F: FileSystem>(
     alloc: Global,
     files: &mut F,
@@ -37,11 +38,29 @@ pub fn find_components<F: FileSystem>(
     ensures { F.replaced files.new ≡ F.replaced files.old }
 {
     let mut found = Vec::new(alloc);
-    let entries = entries_of(alloc, files, folder)?;
-    for namespace in entries.as_slice() {
-        add_namespace(alloc, files, &mut found, namespace)?;
+    if let Ok(Kind::Folder) = files.target(folder) {
+        add_namespaces(alloc, files, &mut found, folder)?;
     }
     Ok(found)
+}
+
+/// Adds the components of the namespaces in a folder.
+fn add_namespaces<F: FileSystem>(
+    alloc: Global,
+    files: &mut F,
+    found: &mut Vec<ComponentFile>,
+    folder: &str,
+) -> Result<(), AllocError>
+    ensures { F.replaced files.new ≡ F.replaced files.old }
+{
+    let entries = listed(alloc, files, folder)?;
+    for namespace in entries.as_slice() {
+        match stem_of(namespace.name.as_str()) {
+            None => add_namespace(alloc, files, found, namespace)?,
+            Some(_) => add(alloc, files, found, namespace, None)?,
+        }
+    }
+    Ok(())
 }
 
 /// Adds the components of a namespace.
@@ -74,7 +93,7 @@ fn add_package<F: FileSystem>(
         None => add_versions(alloc, files, found, namespace, entry),
         Some(name) => {
             let key = key_of(alloc, namespace.name.as_str(), name, None)?;
-            add(alloc, files, found, entry, key)
+            add_keyed(alloc, files, found, entry, key)
         }
     }
 }
@@ -114,13 +133,13 @@ fn add_version<F: FileSystem>(
         None => Ok(()),
         version => {
             let key = key_of(alloc, package.namespace, package.name, version)?;
-            add(alloc, files, found, entry, key)
+            add_keyed(alloc, files, found, entry, key)
         }
     }
 }
 
-/// Adds a file, if there is a key.
-fn add<F: FileSystem>(
+/// Adds a file of a package, if it has a key.
+fn add_keyed<F: FileSystem>(
     alloc: Global,
     files: &mut F,
     found: &mut Vec<ComponentFile>,
@@ -132,6 +151,19 @@ fn add<F: FileSystem>(
     if key.is_none() {
         return Ok(());
     }
+    add(alloc, files, found, entry, key)
+}
+
+/// Adds a file.
+fn add<F: FileSystem>(
+    alloc: Global,
+    files: &mut F,
+    found: &mut Vec<ComponentFile>,
+    entry: &Entry,
+    key: Option<String>,
+) -> Result<(), AllocError>
+    ensures { F.replaced files.new ≡ F.replaced files.old }
+{
     if let Ok(Kind::File) = files.target(entry.path.as_str()) {
         let path = String::from_str(alloc, entry.path.as_str())?;
         found.push(ComponentFile { path, key })?;
@@ -139,7 +171,7 @@ fn add<F: FileSystem>(
     Ok(())
 }
 
-/// What a folder holds, in order. There is nothing in what is no folder that can be listed.
+/// What a folder in another holds, in order. There is nothing in what is no folder, as a link to one, or can't be listed.
 fn entries_of<F: FileSystem>(
     alloc: Global,
     files: &mut F,
@@ -147,10 +179,20 @@ fn entries_of<F: FileSystem>(
 ) -> Result<Vec<Entry>, AllocError>
     ensures { F.replaced files.new ≡ F.replaced files.old }
 {
-    match files.target(folder) {
-        Ok(Kind::Folder) => {}
-        _ => return Ok(Vec::new(alloc)),
+    match files.kind(folder) {
+        Ok(Kind::Folder) => listed(alloc, files, folder),
+        _ => Ok(Vec::new(alloc)),
     }
+}
+
+/// What a folder holds, in order.
+fn listed<F: FileSystem>(
+    alloc: Global,
+    files: &mut F,
+    folder: &str,
+) -> Result<Vec<Entry>, AllocError>
+    ensures { F.replaced files.new ≡ F.replaced files.old }
+{
     match files.list(alloc, folder) {
         Ok(names) => in_order(alloc, folder, names),
         Err(FileError::OutOfMemory) => Err(AllocError),
@@ -180,7 +222,7 @@ fn in_order(
 }
 
 /// The path of a name in a folder. Below `.` it is the name alone.
-fn joined(alloc: Global, folder: &str, name: &str) -> Result<String, AllocError> {
+pub(crate) fn joined(alloc: Global, folder: &str, name: &str) -> Result<String, AllocError> {
     if folder == "." || folder == "./" {
         return String::from_str(alloc, name);
     }

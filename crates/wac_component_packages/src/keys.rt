@@ -58,7 +58,7 @@ fn split_last(path: &str) -> Option<(&str, &str)> {
 }
 
 /// What is after the last `/` of a path, if it has one; else the path.
-fn last_of(path: &str) -> &str {
+pub(crate) fn last_of(path: &str) -> &str {
     match split_last(path) {
         Some((_, last)) => last,
         None => path,

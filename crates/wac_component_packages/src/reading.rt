@@ -1,18 +1,18 @@
 // Reading the components of packages.
 ghost use Rattle.std.specs.Prelude.{◌≡◌};
 
-use crate::finding::{ComponentFile, find_components};
-use crate::keys::{is_component_file, key_of_path, package_key};
+use crate::faults::{ComponentFault, Fault, doubled, unnamed};
+use crate::keys::package_key;
+use crate::listing::{ComponentSource, Listing, list_sources};
+use crate::supplying::disagreement;
 use indexmap::IndexMap;
 use std::alloc::{AllocError, Global};
-use std::io::Write;
-use wac_cli_console::{Console, Outcome, Report, SourceFile};
 use wac_component_reading::{Converted, component_package};
 use wac_diagnostics::Diagnostic;
-use wac_files::{FileError, FileSystem};
+use wac_files::FileSystem;
 use wac_graph::{Package, PackageKey};
 
-/// Where components are, what their packages are called, which worlds of them are chosen, and the form of errors.
+/// Where components are, what their packages are called, and which worlds of them are chosen.
 #[derive(Clone, Copy)]
 pub struct Sought<'s> {
     /// Files of components, whose names end with `.wasm`, and folders in which they are found. Other files are left out.
@@ -21,220 +21,193 @@ pub struct Sought<'s> {
     pub named: &'s [(&'s str, &'s str)],
     /// Names of packages, with their versions, each with the world that is chosen. Of two worlds of a package the last is.
     pub worlds: &'s [(&'s str, &'s str)],
-    pub report: Report,
+    /// Whether a package may have several components, if they agree.
+    pub may_agree: bool,
 }
 
-/// The component of a package: the path of its file, and the name of the package, with its version.
-#[derive(Debug, Drop)]
-pub struct Component {
-    pub path: String,
-    pub key: String,
-}
-
-/// The components that were read, with their packages, and what became of the other files.
+/// The components that were read, with their packages, and the other files.
 #[derive(Drop)]
 pub struct Components {
     /// The components, each of another package.
-    pub all: Vec<Component>,
+    pub all: Vec<ComponentSource>,
     /// Their packages.
     pub packages: IndexMap<PackageKey, Package>,
-    /// The files that give no package, but whose packages' names are known.
-    pub rejected: Vec<Component>,
-    /// What became of the files without a package.
-    pub outcomes: Vec<Outcome>,
+    /// The files that give no package.
+    pub faults: Vec<ComponentFault>,
+    /// The files in the folders themselves, from whose paths no name of a package follows.
+    pub misplaced: Vec<String>,
 }
 
-/// Why a file gives no package.
+/// What the bytes of a file are.
 #[derive(Drop)]
-enum Fault {
-    /// It could not be read.
-    Unread(FileError),
-    /// This is wrong with it.
-    Rejected(Diagnostic),
+enum Made {
+    Package(PackageKey, Package),
+    /// The package of an earlier file, too.
+    Again,
+    Faulty(Fault),
 }
 
-/// Reads the components of packages. What is wrong with a file is reported.
-pub fn read_components<F: FileSystem, O: Write + Drop, E: Write + Drop>(
+/// Reads the components of packages. A file that is reached twice under one name is read once.
+pub fn read_components<F: FileSystem>(
     alloc: Global,
     files: &mut F,
-    console: &mut Console<O, E>,
     sought: Sought<'_>,
 ) -> Result<Components, AllocError>
     // No file is replaced.
     ensures { F.replaced files.new ≡ F.replaced files.old }
 {
+    let Listing { sources, misplaced, .. } = list_sources(alloc, files, sought)?;
+    read_sources(alloc, files, sought, sources, misplaced)
+}
+
+/// Reads files that were listed.
+fn read_sources<F: FileSystem>(
+    alloc: Global,
+    files: &mut F,
+    sought: Sought<'_>,
+    sources: Vec<ComponentSource>,
+    misplaced: Vec<String>,
+) -> Result<Components, AllocError>
+    ensures { F.replaced files.new ≡ F.replaced files.old }
+{
     let mut components = Components {
         all: Vec::new(alloc),
         packages: IndexMap::new(alloc),
-        rejected: Vec::new(alloc),
-        outcomes: Vec::new(alloc),
+        faults: Vec::new(alloc),
+        misplaced,
     };
-    let found = all_files(alloc, files, sought)?;
-    for file in found.as_slice() {
-        if let Some(fault) = components.read(alloc, files, sought.worlds, file)? {
-            let outcome = report_fault(alloc, console, sought.report, file, fault)?;
-            components.reject(alloc, file, outcome)?;
-        }
+    for source in sources {
+        components.read(alloc, files, sought, source)?;
     }
     Ok(components)
 }
 
-/// The files that are sought.
-fn all_files<F: FileSystem>(
-    alloc: Global,
-    files: &mut F,
-    sought: Sought<'_>,
-) -> Result<Vec<ComponentFile>, AllocError>
-    ensures { F.replaced files.new ≡ F.replaced files.old }
-{
-    let mut all = Vec::new(alloc);
-    for path in sought.paths {
-        push_files(alloc, files, &mut all, path)?;
-    }
-    push_named(alloc, &mut all, sought.named)?;
-    Ok(all)
-}
-
-/// Adds the components that a path leads to.
-fn push_files<F: FileSystem>(
-    alloc: Global,
-    files: &mut F,
-    all: &mut Vec<ComponentFile>,
-    path: &str,
-) -> Result<(), AllocError>
-    ensures { F.replaced files.new ≡ F.replaced files.old }
-{
-    if is_component_file(path) {
-        let key = key_of_path(alloc, path)?;
-        let path = String::from_str(alloc, path)?;
-        all.push(ComponentFile { path, key })?;
-        return Ok(());
-    }
-    for file in find_components(alloc, files, path)? {
-        all.push(file)?;
-    }
-    Ok(())
-}
-
-/// Adds components with the names of their packages.
-fn push_named(
-    alloc: Global,
-    all: &mut Vec<ComponentFile>,
-    named: &[(&str, &str)],
-) -> Result<(), AllocError> {
-    for (key, path) in named {
-        let key = Some(String::from_str(alloc, key)?);
-        let path = String::from_str(alloc, path)?;
-        all.push(ComponentFile { path, key })?;
-    }
-    Ok(())
-}
-
 impl Components {
-    /// Reads a file, and adds its component, or says why there is none.
+    /// Reads a file, and keeps its component, or why there is none.
     fn read<F: FileSystem>(
         &mut self,
         alloc: Global,
         files: &mut F,
-        worlds: &[(&str, &str)],
-        file: &ComponentFile,
-    ) -> Result<Option<Fault>, AllocError>
+        sought: Sought<'_>,
+        source: ComponentSource,
+    ) -> Result<(), AllocError>
         ensures { F.replaced files.new ≡ F.replaced files.old }
     {
-        match files.read(alloc, file.path.as_str()) {
-            Ok(bytes) => match self.add(alloc, worlds, file, bytes.as_slice())? {
-                None => Ok(None),
-                Some(diagnostic) => Ok(Some(Fault::Rejected(diagnostic))),
-            },
-            Err(error) => Ok(Some(Fault::Unread(error))),
+        match files.read(alloc, source.path.as_str()) {
+            Ok(bytes) => self.add(alloc, sought, source, bytes.as_slice()),
+            Err(error) => self.reject(source, Fault::Unread(error)),
         }
     }
 
-    /// Keeps what became of a file that gives no package.
-    fn reject(
-        &mut self,
-        alloc: Global,
-        file: &ComponentFile,
-        outcome: Outcome,
-    ) -> Result<(), AllocError> {
-        self.outcomes.push(outcome)?;
-        if let Some(key) = &file.key {
-            self.rejected.push(Component {
-                path: String::from_str(alloc, file.path.as_str())?,
-                key: String::from_str(alloc, key.as_str())?,
-            })?;
-        }
+    /// Keeps why a file gives no package.
+    fn reject(&mut self, source: ComponentSource, fault: Fault) -> Result<(), AllocError> {
+        self.faults.push(ComponentFault { source, fault })?;
         Ok(())
     }
 
-    /// Adds the component that the bytes of a file are, or says what is wrong.
+    /// Keeps the component that the bytes of a file are, or what is wrong.
     fn add(
         &mut self,
         alloc: Global,
-        worlds: &[(&str, &str)],
-        file: &ComponentFile,
+        sought: Sought<'_>,
+        source: ComponentSource,
         bytes: &[u8],
-    ) -> Result<Option<Diagnostic>, AllocError> {
-        let path = file.path.as_str();
-        let Some(key) = &file.key else {
-            return Ok(Some(unnamed(alloc, path)?));
-        };
-        let key = key.as_str();
-        if let Some(first) = self.path_of(key) {
-            return Ok(Some(doubled(alloc, key, first)?));
+    ) -> Result<(), AllocError> {
+        match self.made(alloc, sought, &source, bytes) {
+            Ok(Made::Package(key, package)) => self.keep(source, key, package),
+            Ok(Made::Again) => Ok(()),
+            Ok(Made::Faulty(fault)) => self.reject(source, fault),
+            Err(_) => Err(AllocError),
         }
-        match component_package(alloc, bytes, chosen(worlds, key))? {
-            Converted::Package(package) => {
-                self.keep(alloc, path, key, package)?;
-                Ok(None)
-            }
-            Converted::Rejected(diagnostic) => Ok(Some(diagnostic)),
-        }
-    }
-
-    /// The path of the component of a package.
-    fn path_of(&self, key: &str) -> Option<&str> {
-        for component in self.all.as_slice() {
-            if component.key.as_str() == key {
-                return Some(component.path.as_str());
-            }
-        }
-        None
     }
 
     /// Adds a component with its package.
     fn keep(
         &mut self,
-        alloc: Global,
-        path: &str,
-        key: &str,
+        source: ComponentSource,
+        key: PackageKey,
         package: Package,
     ) -> Result<(), AllocError> {
-        self.all.push(Component {
-            path: String::from_str(alloc, path)?,
-            key: String::from_str(alloc, key)?,
-        })?;
-        let key = package_key(alloc, key)?;
         self.packages.insert(key, package)?;
+        self.all.push(source)?;
         Ok(())
+    }
+
+    /// What the bytes of a file are.
+    fn made(
+        &self,
+        alloc: Global,
+        sought: Sought<'_>,
+        source: &ComponentSource,
+        bytes: &[u8],
+    ) -> Result<Made, AllocError> {
+        let Some(name) = &source.key else {
+            return faulty(unnamed(alloc, source.path.as_str()));
+        };
+        let name = name.as_str();
+        let key = package_key(alloc, name)?;
+        match self.path_of(&key) {
+            None => made_first(alloc, sought, name, bytes),
+            Some(first) if !sought.may_agree => conflicting(doubled(alloc, name, first)),
+            Some(first) => self.made_again(alloc, sought, (name, first), bytes),
+        }
+    }
+
+    /// The same of bytes whose package has another file, of which this is the path.
+    fn made_again(
+        &self,
+        alloc: Global,
+        sought: Sought<'_>,
+        first: (&str, &str),
+        bytes: &[u8],
+    ) -> Result<Made, AllocError> {
+        let (name, path) = first;
+        match made_first(alloc, sought, name, bytes) {
+            Ok(Made::Package(key, package)) => match self.packages.get(&key) {
+                Some(other) => agreed(disagreement(alloc, (name, path, "has"), &package, other)),
+                None => Ok(Made::Again),
+            },
+            made => made,
+        }
+    }
+
+    /// The path of the component of a package.
+    fn path_of(&self, key: &PackageKey) -> Option<&str> {
+        let number = self.packages.get_index_of(key)?;
+        let source = self.all.get(number)?;
+        Some(source.path.as_str())
     }
 }
 
-/// Reports why a file gives no package. Returns what became of it.
-fn report_fault<O: Write + Drop, E: Write + Drop>(
+/// What the bytes of a file are whose package has no other.
+fn made_first(
     alloc: Global,
-    console: &mut Console<O, E>,
-    report: Report,
-    file: &ComponentFile,
-    fault: Fault,
-) -> Result<Outcome, AllocError> {
-    let path = file.path.as_str();
-    match fault {
-        Fault::Unread(error) => Ok(console.failed(alloc, report, path, error)),
-        Fault::Rejected(diagnostic) => {
-            console.report(alloc, report, &SourceFile { path, text: b"" }, &diagnostic)?;
-            Ok(Outcome::Rejected)
-        }
+    sought: Sought<'_>,
+    key: &str,
+    bytes: &[u8],
+) -> Result<Made, AllocError> {
+    match component_package(alloc, bytes, chosen(sought.worlds, key)) {
+        Ok(Converted::Package(package)) => Ok(Made::Package(package_key(alloc, key)?, package)),
+        Ok(Converted::Rejected(diagnostic)) => Ok(Made::Faulty(Fault::Rejected(diagnostic))),
+        Err(_) => Err(AllocError),
+    }
+}
+
+/// That this is wrong with a file by itself.
+fn faulty(diagnostic: Result<Diagnostic, AllocError>) -> Result<Made, AllocError> {
+    Ok(Made::Faulty(Fault::Rejected(diagnostic?)))
+}
+
+/// That this is wrong with a file beside another one of its package.
+fn conflicting(diagnostic: Result<Diagnostic, AllocError>) -> Result<Made, AllocError> {
+    Ok(Made::Faulty(Fault::Conflict(diagnostic?)))
+}
+
+/// What a file is beside another one of its package, from which it differs so.
+fn agreed(difference: Result<Option<Diagnostic>, AllocError>) -> Result<Made, AllocError> {
+    match difference? {
+        None => Ok(Made::Again),
+        Some(diagnostic) => Ok(Made::Faulty(Fault::Conflict(diagnostic))),
     }
 }
 
@@ -247,18 +220,4 @@ fn chosen<'w>(worlds: &[(&str, &'w str)], key: &str) -> Option<&'w str> {
         }
     }
     last
-}
-
-/// That no key follows from a path.
-fn unnamed(alloc: Global, path: &str) -> Result<Diagnostic, AllocError> {
-    let message = String::from_str(alloc, "no package's name follows from the path")?;
-    let mut diagnostic = Diagnostic::without_place("wac::unnamed-component", message);
-    diagnostic.help = Some(format!(in alloc; "name it: --package a:b={path}")?);
-    Ok(diagnostic)
-}
-
-/// That a package is that of another component, too.
-fn doubled(alloc: Global, key: &str, first: &str) -> Result<Diagnostic, AllocError> {
-    let message = format!(in alloc; "`{key}` is the package of {first} too")?;
-    Ok(Diagnostic::without_place("wac::decoded-twice", message))
 }

@@ -71,7 +71,7 @@ Leaves unit (notices.Lost uri) old new = Remakes unit (string_bytes uri) [] old 
 Leaves unit (notices.Closed uri) old new = new ≡ others (string_bytes uri) old
 Leaves unit notices.Initialized old new = new ≡ old
 Leaves unit notices.Exit old new = new ≡ old
-Leaves unit notices.FilesChanged old new = new ≡ old
+Leaves unit (notices.FilesChanged uris) old new = new ≡ old
 Leaves unit (notices.FoldersChanged added removed) old new = new ≡ old
 Leaves unit notices.Other old new = new ≡ old
 

@@ -10,7 +10,8 @@ use crate::places::{View, range_value};
 use crate::questions::Answered;
 use serde_json::{Value, json};
 use std::alloc::{AllocError, Global};
-use wac_comments::{Indent, LineEnd, Options, TidyError, tidy};
+use wac_comments::{Indent, Options, TidyError, tidy};
+use wac_line_ends::line_end_of;
 use wac_lsp_messages::{Change, Code, FormattingOptions, Range, Refusal};
 use wac_lsp_texts::{ChangeError, changed};
 use wac_positions::ColumnUnit;
@@ -26,22 +27,6 @@ fn indent_of(given: FormattingOptions) -> Indent
         Ok(count) => Indent::Blanks(count.min(16).max(1)),
         Err(_) => Indent::Blanks(16),
     }
-}
-
-/// What ends the first line of a text.
-fn line_end_of(text: &str) -> LineEnd {
-    let mut before = 0u8;
-    for byte in text.as_bytes() {
-        if *byte == b'\n' {
-            return if before == b'\r' {
-                LineEnd::CrLf
-            } else {
-                LineEnd::Lf
-            };
-        }
-        before = *byte;
-    }
-    LineEnd::Lf
 }
 
 /// How a text is laid out.

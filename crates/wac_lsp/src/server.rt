@@ -456,7 +456,7 @@ impl Server {
                 let body = withdrawn(alloc, uri.as_str())?;
                 Ok(sends_notification(alloc, body)?)
             }
-            Notice::FilesChanged => Ok(self.refreshed(alloc)?),
+            Notice::FilesChanged { .. } => Ok(self.refreshed(alloc)?),
             Notice::Exit => Ok(sends_nothing(alloc, Some(1))),
             // A server by itself knows no folders.
             Notice::Initialized | Notice::FoldersChanged { .. } | Notice::Other => {

@@ -1,5 +1,5 @@
 //! What a client says of its folders when it begins.
-use crate::uris::path_of_uri;
+use crate::uris::{normal_path, path_of_uri};
 use serde_json::Value;
 use std::alloc::{AllocError, Global};
 
@@ -13,11 +13,13 @@ fn uri_of(folder: &Value) -> Option<&str> {
     folder.get("uri")?.as_str()
 }
 
-/// Adds the folder of a path, unless it is the root of all files. The path gets no slash at its end.
+/// Adds the folder of a path, unless it is the root of all files.
 fn push_path(alloc: Global, folders: &mut Vec<String>, path: &str) -> Result<(), AllocError> {
-    let path = path.trim_end_matches('/');
     if path.starts_with('/') {
-        folders.push(String::from_str(alloc, path)?)?;
+        let path = normal_path(alloc, path)?;
+        if path.as_str() != "/" {
+            folders.push(path)?;
+        }
     }
     Ok(())
 }

@@ -51,6 +51,10 @@ said change = (change.range, string_bytes change.text)
 abbrev pub folders_in : List ℕ → Data → Option (List (List ℕ))
 folders_in name params = option_and_then (each_in (text_in (codes "uri")) name) (get (codes "event") params)
 
+-- the URIs of the files that were changed
+abbrev pub files_in : Data → Option (List (List ℕ))
+files_in params = each_in (text_in (codes "uri")) (codes "changes") params
+
 -- parameters lack what a notification needs
 abbrev pub NoticeLacks : KnownNotice → Data → Type 0
 NoticeLacks initialized params = ⊥
@@ -79,7 +83,8 @@ IsNoticeOf method params (notices.Lost uri) =
     × ((version_in params ≡ None) ⊎ (changes_in params ≡ None))
 IsNoticeOf method params (notices.Closed uri) =
     (method ≡ notice_method closed) × (uri_in params ≡ Some (string_bytes uri))
-IsNoticeOf method params notices.FilesChanged = method ≡ notice_method files_changed
+IsNoticeOf method params (notices.FilesChanged uris) =
+    (method ≡ notice_method files_changed) × (option_map (λ all. map string_bytes all.items) uris ≡ files_in params)
 IsNoticeOf method params (notices.FoldersChanged added removed) =
     (method ≡ notice_method folders_changed)
     × (folders_in (codes "added") params ≡ Some (map string_bytes added.items))

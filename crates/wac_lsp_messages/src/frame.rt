@@ -7,6 +7,9 @@ use crate::header::{HeaderError, body_len};
 /// The longest header that is received, in bytes.
 const MOST_HEADER: usize = 8192;
 
+/// The longest body that is received, in bytes.
+const MOST_BODY: usize = 67_108_864;
+
 /// What ends a header.
 const END: &[u8] = b"\r\n\r\n";
 
@@ -19,6 +22,11 @@ pub enum Frame {
     Whole {
         /// The first byte of the body.
         start: usize,
+        /// The first byte after the body.
+        end: usize,
+    },
+    /// A message whose body has more than 64 MB: it is to be skipped.
+    TooLong {
         /// The first byte after the body.
         end: usize,
     },
@@ -56,14 +64,22 @@ fn frame_after(header: &[u8], start: usize, len: usize) -> Frame
         return Frame::Broken(HeaderError::NoField);
     };
     match body_len(header) {
-        Ok(body) => {
-            let end = start.saturating_add(body);
-            if end <= len {
-                Frame::Whole { start, end }
-            } else {
-                Frame::Partial
-            }
-        }
+        Ok(body) => frame_of(start, body, len),
         Err(error) => Frame::Broken(error),
+    }
+}
+
+/// What a message is whose body begins at `start` and has so many bytes, of so many bytes that came.
+fn frame_of(start: usize, body: usize, len: usize) -> Frame
+    ensures { LiesIn len result }
+{
+    let end = start.saturating_add(body);
+    if MOST_BODY < body {
+        return Frame::TooLong { end };
+    }
+    if end <= len {
+        Frame::Whole { start, end }
+    } else {
+        Frame::Partial
     }
 }

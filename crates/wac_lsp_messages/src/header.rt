@@ -1,10 +1,5 @@
 //! The header of a message.
-ghost use Rattle.std.specs.Prelude.{◌≤◌, IfOk};
-
 use thiserror::Error;
-
-/// The longest body that is received, in bytes.
-const MOST: usize = 64 * 1024 * 1024;
 
 /// Why bytes are no header.
 #[derive(Clone, Copy, Debug, Drop, PartialEq, Eq, Error)]
@@ -18,7 +13,7 @@ pub enum HeaderError {
     /// The length is no number, or there are two.
     #[error("the Content-Length is no number")]
     BadLength,
-    /// The length is more than 64 MB.
+    /// The length has more digits than a number of bytes.
     #[error("the Content-Length is more than 64 MB")]
     TooLong,
     /// The header doesn't end within 8 KB.
@@ -26,16 +21,20 @@ pub enum HeaderError {
     Endless,
 }
 
+/// Whether a character is blank space around the value of a field.
+fn is_blank(character: char) -> bool {
+    character == ' ' || character == '\t'
+}
+
 /// A length in decimal digits.
 fn length_of(value: &str) -> Result<usize, HeaderError> {
-    let digits = value.trim_matches(' ');
+    let digits = value.trim_matches(is_blank);
     if digits.is_empty() || !digits.as_bytes().iter().all(|byte| byte.is_ascii_digit()) {
         return Err(HeaderError::BadLength);
     }
     match digits.parse::<usize>() {
-        Ok(len) if len <= MOST => Ok(len),
-        // More digits than a number has are too many bytes too.
-        _ => Err(HeaderError::TooLong),
+        Ok(len) => Ok(len),
+        Err(_) => Err(HeaderError::TooLong),
     }
 }
 
@@ -52,10 +51,7 @@ fn length_in_line(line: &str) -> Result<Option<usize>, HeaderError> {
 }
 
 /// The length of the body that a header announces: fields are in any order, and others than the length are passed over.
-/// At most 64 MB.
-pub(crate) fn body_len(header: &str) -> Result<usize, HeaderError>
-    ensures { IfOk result (λ len. len ≤ MOST) }
-{
+pub(crate) fn body_len(header: &str) -> Result<usize, HeaderError> {
     let mut found: Option<usize> = None;
     for line in header.split("\r\n") {
         if let Some(len) = length_in_line(line)? {
@@ -66,8 +62,7 @@ pub(crate) fn body_len(header: &str) -> Result<usize, HeaderError>
         }
     }
     match found {
-        Some(len) if len <= MOST => Ok(len),
-        Some(_) => Err(HeaderError::TooLong),
+        Some(len) => Ok(len),
         None => Err(HeaderError::NoLength),
     }
 }

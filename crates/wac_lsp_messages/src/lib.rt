@@ -2,7 +2,7 @@
 //!
 //! ```text
 //! let mut receiver = Receiver::new(alloc);
-//! while let Some(body) = receiver.receive(alloc, &mut input)? {
+//! while let Some(Received::Body(body)) = receiver.receive(alloc, &mut input)? {
 //!     match read_message(alloc, &body)? {
 //!         Message::Request { id, call } => send(alloc, &mut output, &reply(alloc, &id, &Value::Null)?)?,
 //!         _ => {}
@@ -36,6 +36,6 @@ pub use markup::Markup;
 pub use message::{Message, read_message};
 pub use notice::{Change, Notice, Range};
 pub use question::{FormattingOptions, Question};
-pub use receiving::{ReceiveError, Receiver, send};
+pub use receiving::{ReceiveError, Received, Receiver, send};
 pub use refusal::{Code, Refusal};
 pub use replies::{notification, refused, reply};

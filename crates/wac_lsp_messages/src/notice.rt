@@ -1,7 +1,7 @@
 //! Notifications of a client.
 ghost use Rattle.std.specs.Prelude.{◌≡◌, IfOk, Some, codes, map, option_map, string_bytes};
 ghost use Rattle.serde_json.specs.View.{items_view, view};
-ghost use Rattle.wac_lsp_messages.specs.Notices.{IsNoticeOf, change_of, changes_in, folders_in, replaced, said};
+ghost use Rattle.wac_lsp_messages.specs.Notices.{IsNoticeOf, change_of, changes_in, files_in, folders_in, replaced, said};
 ghost use Rattle.wac_lsp_messages.specs.Reading.{each, place_of, range_of, text_in, uri_in, version_in};
 
 use crate::fields::{count, document_text, field, owned_text, uri};
@@ -62,8 +62,11 @@ pub enum Notice {
         /// Its name.
         uri: String,
     },
-    /// Files of the client's folders were changed.
-    FilesChanged,
+    /// Files of the client's folders were made, changed or removed.
+    FilesChanged {
+        /// Their URIs: none where they can't be read, so that it isn't known which.
+        uris: Option<Vec<String>>,
+    },
     /// The client has other folders open than before.
     FoldersChanged {
         /// The URIs of those that it opened.
@@ -208,8 +211,8 @@ fn read_closed(alloc: Global, params: &Value) -> Result<Notice, AllocError>
     }
 }
 
-/// The URIs of folders, if each value has one.
-fn read_each_folder(alloc: Global, values: &[Value]) -> Result<Option<Vec<String>>, AllocError>
+/// The URIs of folders or files, if each value has one.
+fn read_each_uri(alloc: Global, values: &[Value]) -> Result<Option<Vec<String>>, AllocError>
     ensures { IfOk result (λ found. option_map (λ all. map string_bytes all.items) found
         ≡ each (text_in (codes "uri")) (items_view values.now)) }
 {
@@ -236,7 +239,7 @@ fn read_folders(
         return Ok(None);
     };
     match field(event, name) {
-        Some(Value::Array(folders)) => read_each_folder(alloc, folders),
+        Some(Value::Array(folders)) => read_each_uri(alloc, folders),
         _ => Ok(None),
     }
 }
@@ -255,6 +258,24 @@ fn read_folders_changed(alloc: Global, params: &Value) -> Result<Notice, AllocEr
     }
 }
 
+/// The URIs of the files that were changed, if each change has one.
+fn read_files(alloc: Global, params: &Value) -> Result<Option<Vec<String>>, AllocError>
+    ensures { IfOk result (λ found. option_map (λ all. map string_bytes all.items) found ≡ files_in (view params.now)) }
+{
+    match field(params, "changes") {
+        Some(Value::Array(changes)) => read_each_uri(alloc, changes),
+        _ => Ok(None),
+    }
+}
+
+/// That files were changed.
+fn read_files_changed(alloc: Global, params: &Value) -> Result<Notice, AllocError>
+    ensures { IfOk result (IsNoticeOf (codes "workspace/didChangeWatchedFiles") (view params.now)) }
+{
+    let uris = read_files(alloc, params)?;
+    Ok(Notice::FilesChanged { uris })
+}
+
 /// What a notification of this method tells.
 pub(crate) fn read_notice(alloc: Global, method: &str, params: &Value) -> Result<Notice, AllocError>
     ensures { IfOk result (IsNoticeOf method.now (view params.now)) }
@@ -265,7 +286,7 @@ pub(crate) fn read_notice(alloc: Global, method: &str, params: &Value) -> Result
         "textDocument/didOpen" => read_opened(alloc, params),
         "textDocument/didChange" => read_changed(alloc, params),
         "textDocument/didClose" => read_closed(alloc, params),
-        "workspace/didChangeWatchedFiles" => Ok(Notice::FilesChanged),
+        "workspace/didChangeWatchedFiles" => read_files_changed(alloc, params),
         "workspace/didChangeWorkspaceFolders" => read_folders_changed(alloc, params),
         _ => Ok(Notice::Other),
     }

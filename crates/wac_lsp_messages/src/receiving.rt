@@ -28,7 +28,17 @@ impl From<AllocError> for ReceiveError {
     }
 }
 
-/// Receives messages. It keeps the bytes that came, and no others take memory, whatever length a header announces.
+/// What was received.
+#[derive(Debug, Drop, PartialEq)]
+pub enum Received {
+    /// The body of a message.
+    Body(Vec<u8>),
+    /// A message whose body has more than 64 MB, which was read and not kept.
+    TooLong,
+}
+
+/// Receives messages. It keeps the bytes that came, and no others take memory, whatever length a header announces; of a
+/// body that is too long it keeps none.
 #[derive(Debug, Drop)]
 pub struct Receiver {
     bytes: Vec<u8>,
@@ -42,17 +52,20 @@ impl Receiver {
         }
     }
 
-    /// The body of the next message, or `None` where the input ended after the last. After an error nothing more can be
-    /// received.
+    /// The next message, or `None` where the input ended after the last. After an error nothing more can be received.
     pub fn receive<R: Read>(
         &mut self,
         alloc: Global,
         reader: &mut R,
-    ) -> Result<Option<Vec<u8>>, ReceiveError> {
+    ) -> Result<Option<Received>, ReceiveError> {
         for _ in 0..u64::MAX {
             match frame_in(self.bytes.as_slice()) {
                 Frame::Whole { start, end } => {
-                    return Ok(Some(self.take(alloc, start, end)?));
+                    return Ok(Some(Received::Body(self.take(alloc, start, end)?)));
+                }
+                Frame::TooLong { end } => {
+                    self.skip(alloc, reader, end)?;
+                    return Ok(Some(Received::TooLong));
                 }
                 Frame::Broken(error) => return Err(ReceiveError::Header(error)),
                 Frame::Partial => {}
@@ -77,8 +90,31 @@ impl Receiver {
         }
     }
 
+    /// Reads so many bytes away, counted from the first that is kept, and keeps what came after them.
+    fn skip<R: Read>(
+        &mut self,
+        alloc: Global,
+        reader: &mut R,
+        end: usize,
+    ) -> Result<(), ReceiveError> {
+        let mut left = end;
+        for _ in 0..u64::MAX {
+            let came = self.bytes.len();
+            if left <= came {
+                break;
+            }
+            left -= came;
+            self.bytes.clear();
+            if !self.read_more(reader)? {
+                return Err(ReceiveError::Cut);
+            }
+        }
+        self.bytes = Vec::from_slice(alloc, self.bytes.as_slice().get(left..).unwrap_or(&[]))?;
+        Ok(())
+    }
+
     /// What the end of the input is: that of a message, or within one.
-    fn end(&self) -> Result<Option<Vec<u8>>, ReceiveError> {
+    fn end(&self) -> Result<Option<Received>, ReceiveError> {
         if self.bytes.is_empty() {
             Ok(None)
         } else {

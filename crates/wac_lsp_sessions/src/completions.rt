@@ -2,7 +2,7 @@
 use serde_json::Value;
 use std::alloc::{AllocError, Global};
 use wac_lsp::{Document, Server, Suggestion};
-use wac_lsp_workspace::{Offered, Offers, Workspace};
+use wac_lsp_workspace::{Offered, Offers, Seen};
 use wac_positions::Place;
 
 /// The number of what a name stands for among the kinds of completions.
@@ -34,12 +34,12 @@ fn suggestions(alloc: Global, offers: &Offers) -> Result<Vec<Suggestion<'_>>, Al
 pub(crate) fn completed_at(
     alloc: Global,
     server: &Server,
-    workspace: &Workspace,
+    seen: Seen<'_>,
     document: &Document,
     place: Place,
 ) -> Result<Option<Value>, AllocError> {
     let offset = server.offset_in(alloc, document.text(), place)?;
-    let offers = workspace.names_at(alloc, document.text(), offset)?;
+    let offers = seen.names_at(alloc, document.text(), offset)?;
     if offers.all.is_empty() {
         return Ok(None);
     }

@@ -3,7 +3,7 @@ use serde_json::Value;
 use std::alloc::{AllocError, Global};
 use wac_lsp::{Document, Server};
 use wac_lsp_folders::uri_of_path;
-use wac_lsp_workspace::{Declaration, Workspace};
+use wac_lsp_workspace::{Declaration, Seen};
 use wac_positions::Place;
 
 /// The name of the document that declares something: its client's, where it is open.
@@ -28,12 +28,12 @@ fn location(
 pub(crate) fn declared_at(
     alloc: Global,
     server: &Server,
-    workspace: &Workspace,
+    seen: Seen<'_>,
     document: &Document,
     place: Place,
 ) -> Result<Option<Value>, AllocError> {
     let offset = server.offset_in(alloc, document.text(), place)?;
-    match workspace.declaration_at(alloc, document.text(), offset) {
+    match seen.declaration_at(alloc, document.text(), offset) {
         Ok(Some(declaration)) => Ok(Some(location(alloc, server, &declaration)?)),
         Ok(None) => Ok(None),
         Err(_) => Err(AllocError),

@@ -20,4 +20,4 @@ mod symbols;
 mod watching;
 
 pub use serving::{ServeError, serve};
-pub use session::{Session, Stepped};
+pub use session::{Reads, Session, Stepped};

@@ -5,10 +5,11 @@ ghost use Rattle.wac_lsp.specs.Replies.{AreReplies, replies};
 use serde_json::json;
 use std::alloc::{AllocError, Global};
 use wac_diagnostics::Diagnostic;
+use wac_excerpts::push_shown;
 use wac_lsp::{Document, Sent, Server};
 use wac_lsp_folders::path_of_uri;
 use wac_lsp_messages::notification;
-use wac_lsp_workspace::Workspace;
+use wac_lsp_workspace::{Concerned, Workspace};
 
 /// The number of a warning among the messages of a log.
 const WARNING: u8 = 2;
@@ -39,26 +40,40 @@ fn published(
     server.publication(alloc, document, said.as_slice())
 }
 
-/// What is told of each open document.
+/// Whether some packages concern what is told of a document.
+fn is_concerned(
+    document: &Document,
+    alloc: Global,
+    concerned: &Concerned,
+) -> Result<bool, AllocError> {
+    concerned.concern(alloc, document.text())
+}
+
+/// What is told of each open document that some packages concern.
 #[tactic(auto, using(wac_lsp::proofs::Sending::notified, wac_lsp::proofs::Sending::still_replies))]
 pub(crate) fn all_published(
     alloc: Global,
     server: &Server,
     workspace: &Workspace,
+    concerned: &Concerned,
 ) -> Result<Vec<Sent>, AllocError>
     ensures ids { IfOk result (λ messages. replies messages.items ≡ []) }
     ensures written { IfOk result (λ messages. AreReplies messages.items) }
 {
     let mut messages = Vec::new(alloc);
     for document in server.documents() {
-        let body = published(alloc, server, workspace, document)?;
-        messages.push(Sent::Notification { body })?;
+        if is_concerned(document, alloc, concerned)? {
+            let body = published(alloc, server, workspace, document)?;
+            messages.push(Sent::Notification { body })?;
+        }
     }
     Ok(messages)
 }
 
-/// A line for the log of a client.
+/// A line for the log of a client, as it is shown: a terminal may be where the client writes it.
 pub(crate) fn logged(alloc: Global, line: &str) -> Result<String, AllocError> {
-    let params = json!(in alloc; {"type": WARNING, "message": line})?;
+    let mut shown = String::new(alloc);
+    push_shown(&mut shown, line)?;
+    let params = json!(in alloc; {"type": WARNING, "message": shown.as_str()})?;
     notification(alloc, "window/logMessage", params)
 }

@@ -1,13 +1,13 @@
 //! The loop of a session over a reader, a writer and files.
-use crate::session::{Session, Stepped};
+use crate::session::{Reads, Session, Stepped};
 use std::alloc::{AllocError, Global};
 use std::io::{Read, Write};
 use thiserror::Error;
 use wac_files::FileSystem;
 use wac_lsp::Sent;
-use wac_lsp_messages::{ReceiveError, Receiver, send};
+use wac_lsp_messages::{Code, ReceiveError, Received, Receiver, Refusal, refused, send};
 use wac_lsp_texts::ChangeError;
-use wac_lsp_workspace::read_folders;
+use wac_lsp_workspace::{read_files, read_folders};
 
 /// Why a server ended without being asked to.
 #[derive(Debug, Drop, Error)]
@@ -50,6 +50,12 @@ impl From<ReceiveError> for ServeError {
     }
 }
 
+/// A message whose body has too many bytes.
+const TOO_LONG: Refusal = Refusal {
+    code: Code::InvalidRequest,
+    message: "the body is longer than 64 MB",
+};
+
 /// Sends messages, in order.
 fn send_all<W: Write>(alloc: Global, output: &mut W, messages: &[Sent]) -> Result<(), ServeError> {
     for message in messages {
@@ -60,15 +66,46 @@ fn send_all<W: Write>(alloc: Global, output: &mut W, messages: &[Sent]) -> Resul
     Ok(())
 }
 
-/// Reads the folders of a session, and sends what is told then.
-fn read_all<W: Write, F: FileSystem>(
+/// Reads the folders of a session: what is told then.
+fn read_all<F: FileSystem>(
+    alloc: Global,
+    session: &mut Session,
+    files: &mut F,
+) -> Result<Vec<Sent>, AllocError> {
+    let contents = read_folders(alloc, files, session.workspace())?;
+    session.take(alloc, contents)
+}
+
+/// Reads files of the folders, or the folders where that doesn't do: what is told then.
+fn read_some<F: FileSystem>(
+    alloc: Global,
+    session: &mut Session,
+    files: &mut F,
+    paths: &[String],
+) -> Result<Vec<Sent>, AllocError> {
+    match read_files(alloc, files, session.workspace(), paths)? {
+        Some(contents) => session.take_files(alloc, contents),
+        None => read_all(alloc, session, files),
+    }
+}
+
+/// Reads what is to be read for a session, and sends what is told then. The session goes on where memory runs out for it.
+fn read<W: Write, F: FileSystem>(
     alloc: Global,
     session: &mut Session,
     output: &mut W,
     files: &mut F,
+    reads: &Reads,
 ) -> Result<(), ServeError> {
-    let contents = read_folders(alloc, files, session.folders())?;
-    let messages = session.take(alloc, contents)?;
+    let told = match reads {
+        Reads::Nothing => return Ok(()),
+        Reads::Folders => read_all(alloc, session, files),
+        Reads::Files(paths) => read_some(alloc, session, files, paths.as_slice()),
+    };
+    let messages = match told {
+        Ok(messages) => messages,
+        Err(_) => session.take_nothing(alloc)?,
+    };
     send_all(alloc, output, messages.as_slice())
 }
 
@@ -80,15 +117,19 @@ fn serve_one<W: Write, F: FileSystem>(
     files: &mut F,
     body: &[u8],
 ) -> Result<Option<u8>, ServeError> {
-    let Stepped {
-        outcome,
-        reads_folders,
-    } = session.step(alloc, body)?;
+    let Stepped { outcome, reads } = session.step(alloc, body)?;
     send_all(alloc, output, outcome.messages.as_slice())?;
-    if reads_folders {
-        read_all(alloc, session, output, files)?;
-    }
+    read(alloc, session, output, files, &reads)?;
     Ok(outcome.status)
+}
+
+/// Says that a message was too long, and skipped.
+fn refuse_long<W: Write>(alloc: Global, output: &mut W) -> Result<(), ServeError> {
+    let body = refused(alloc, None, TOO_LONG)?;
+    match send(alloc, output, body.as_str()) {
+        Ok(()) => Ok(()),
+        Err(_) => Err(ServeError::Output),
+    }
 }
 
 /// Answers the messages of a reader until the client asks the server to end: the status that it is to end with. No file
@@ -103,10 +144,17 @@ pub fn serve<R: Read, W: Write, F: FileSystem>(
     let mut session = Session::new(alloc, version);
     let mut receiver = Receiver::new(alloc);
     for _ in 0..u64::MAX {
-        let Some(body) = receiver.receive(alloc, input)? else {
-            return Err(ServeError::Ended);
+        let status = match receiver.receive(alloc, input)? {
+            Some(Received::Body(body)) => {
+                serve_one(alloc, &mut session, output, files, body.as_slice())?
+            }
+            Some(Received::TooLong) => {
+                refuse_long(alloc, output)?;
+                None
+            }
+            None => return Err(ServeError::Ended),
         };
-        if let Some(status) = serve_one(alloc, &mut session, output, files, body.as_slice())? {
+        if let Some(status) = status {
             return Ok(status);
         }
     }

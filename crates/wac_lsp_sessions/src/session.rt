@@ -19,7 +19,7 @@ use wac_lsp::{Document, Outcome, Sent, Server, answer, sends_reply};
 use wac_lsp_folders::{client_folders, path_of_uri};
 use wac_lsp_messages::{Call, Id, Message, Notice, Question, Refusal, read_message, reply};
 use wac_lsp_texts::ChangeError;
-use wac_lsp_workspace::{FolderContents, Workspace};
+use wac_lsp_workspace::{Concerned, FileContents, FolderContents, Seen, Taken, Workspace};
 
 /// A server, and what is known of the folders that its client has open.
 pub struct Session {
@@ -40,14 +40,29 @@ impl Drop for Session {
     }
 }
 
+/// What a caller is to read after a message.
+#[derive(Drop)]
+pub enum Reads {
+    /// Nothing.
+    Nothing,
+    /// The folders, to be given to `take`.
+    Folders,
+    /// The files at these paths, to be given to `take_files`.
+    Files(Vec<String>),
+}
+
 /// What a session does after a message.
 #[derive(Drop)]
 pub struct Stepped {
     /// What the server does.
     pub outcome: Outcome,
-    /// Whether the folders are to be read then, and given to `take`.
-    pub reads_folders: bool,
+    /// What is to be read then.
+    pub reads: Reads,
 }
+
+/// What is told where memory runs out while folders are read, or packages are made of them.
+const NO_MEMORY: &str =
+    "the folders need more memory than there is: they are as if they were not open";
 
 /// Whether a request is one with which a client begins.
 fn initializes(call: &Call) -> bool {
@@ -74,7 +89,15 @@ fn stays(outcome: Outcome) -> Stepped
 {
     Stepped {
         outcome,
-        reads_folders: false,
+        reads: Reads::Nothing,
+    }
+}
+
+/// What is to be read where files were changed: the folders, where it isn't known which files.
+fn reads_of(paths: Option<Vec<String>>) -> Reads {
+    match paths {
+        Some(paths) => Reads::Files(paths),
+        None => Reads::Folders,
     }
 }
 
@@ -96,7 +119,7 @@ fn put_text(
         return Ok(());
     }
     if let Some(path) = path_of_uri(alloc, document.uri())? {
-        let _ = workspace.put(alloc, path.as_str(), document.uri(), document.text())?;
+        workspace.put(alloc, path.as_str(), document.uri(), document.text())?;
     }
     Ok(())
 }
@@ -136,6 +159,19 @@ impl Session {
     /// The paths of the client's folders.
     pub fn folders(&self) -> &[String] {
         self.workspace.folders()
+    }
+
+    /// What is known of the folders.
+    pub fn workspace(&self) -> &Workspace {
+        &self.workspace
+    }
+
+    /// What is known for a document.
+    fn seen(&self, alloc: Global, document: &Document) -> Result<Seen<'_>, AllocError> {
+        match path_of_uri(alloc, document.uri())? {
+            Some(path) => Ok(self.workspace.at(path.as_str())),
+            None => Ok(self.workspace.at("")),
+        }
     }
 
     /// What the session does after the message with this body. No file is read.
@@ -223,13 +259,31 @@ impl Session {
         };
         match question {
             Question::Definition(place) => {
-                declared_at(alloc, &self.server, &self.workspace, document, *place)
+                declared_at(
+                    alloc,
+                    &self.server,
+                    self.seen(alloc, document)?,
+                    document,
+                    *place,
+                )
             }
             Question::Hover(place) => {
-                hovered_at(alloc, &self.server, &self.workspace, document, *place)
+                hovered_at(
+                    alloc,
+                    &self.server,
+                    self.seen(alloc, document)?,
+                    document,
+                    *place,
+                )
             }
             Question::Completions(place) => {
-                completed_at(alloc, &self.server, &self.workspace, document, *place)
+                completed_at(
+                    alloc,
+                    &self.server,
+                    self.seen(alloc, document)?,
+                    document,
+                    *place,
+                )
             }
             Question::CodeActions(range) => {
                 mended_at(alloc, &self.server, &self.workspace, document, *range)
@@ -286,12 +340,13 @@ impl Session {
             ServerAnswers self.old.server (Request id call) stepped.outcome.messages.items) }
         ensures holds { IfOk result (λ _. ServerHolds self.old.server self.new.server (Request id call)) }
     {
-        match self.declared(alloc, &call)? {
-            Some(value) => {
+        match self.declared(alloc, &call) {
+            Ok(Some(value)) => {
                 let body = reply(alloc, &id, value)?;
                 Ok(stays(sends_reply(alloc, Some(id), body)?))
             }
-            None => {
+            // Where memory runs out for what the folders have, the server answers by itself.
+            Ok(None) | Err(_) => {
                 let message = Message::Request { id, call };
                 Ok(stays(answer(alloc, &mut self.server, message)?))
             }
@@ -309,7 +364,22 @@ impl Session {
         if !self.server.is_running() || !self.concerns(&touched) {
             return Ok(stays(outcome));
         }
-        Ok(self.touched(alloc, touched, outcome)?)
+        match self.touched(alloc, touched, outcome) {
+            Ok(stepped) => Ok(stepped),
+            Err(_) => Ok(stays(self.without_folders(alloc)?)),
+        }
+    }
+
+    /// What the session does where memory runs out for what the folders have.
+    fn without_folders(&mut self, alloc: Global) -> Result<Outcome, AllocError>
+        ensures ids { IfOk result (λ outcome. replies outcome.messages.items ≡ []) }
+        ensures written { IfOk result (λ outcome. AreReplies outcome.messages.items) }
+        ensures keeps { self.new.server ≡ self.old.server }
+    {
+        Ok(Outcome {
+            messages: self.take_nothing(alloc)?,
+            status: None,
+        })
     }
 
     /// Whether there are folders for which a notification changes something, or it changes which there are.
@@ -332,21 +402,21 @@ impl Session {
     {
         match touched {
             Touched::Nothing => Ok(stays(outcome)),
-            Touched::Text(uri) => Ok(stays(self.text_taken(alloc, uri.as_str(), outcome)?)),
+            Touched::Text(uri) => self.text_touched(alloc, uri.as_str(), outcome),
             Touched::Closed(uri) => self.closed(alloc, uri.as_str(), outcome),
             Touched::Begun => Ok(Stepped {
                 outcome: self.begun(alloc, outcome)?,
-                reads_folders: true,
+                reads: Reads::Folders,
             }),
-            Touched::Files => Ok(Stepped {
+            Touched::Files(paths) => Ok(Stepped {
                 outcome: with_messages(outcome, Vec::new(alloc)),
-                reads_folders: true,
+                reads: reads_of(paths),
             }),
             Touched::Folders { added, removed } => {
                 self.change_folders(alloc, added, removed.as_slice())?;
                 Ok(Stepped {
                     outcome: self.begun(alloc, outcome)?,
-                    reads_folders: true,
+                    reads: Reads::Folders,
                 })
             }
         }
@@ -381,23 +451,60 @@ impl Session {
         Ok(with_messages(outcome, sends_one(alloc, body)?))
     }
 
-    /// Takes the text of a document that was opened or changed. Returns whether packages were made anew.
-    fn take_text(&mut self, alloc: Global, uri: &str) -> Result<bool, AllocError>
-        ensures { self.new.server ≡ self.old.server }
+    /// What the session does after a document was opened or changed: the folders are read, where it isn't known which packages
+    /// it can mention.
+    fn text_touched(
+        &mut self,
+        alloc: Global,
+        uri: &str,
+        outcome: Outcome,
+    ) -> Result<Stepped, AllocError>
+        requires ids { replies outcome.messages.items ≡ [] }
+        requires written { AreReplies outcome.messages.items }
+        ensures ids { IfOk result (λ stepped. replies stepped.outcome.messages.items ≡ []) }
+        ensures written { IfOk result (λ stepped. AreReplies stepped.outcome.messages.items) }
+        ensures keeps { self.new.server ≡ self.old.server }
     {
-        let Some(document) = self.server.document(uri) else {
+        if !self.is_strange(alloc, uri)? {
+            return Ok(stays(self.text_taken(alloc, uri, outcome)?));
+        }
+        let _ = self.take_text(alloc, uri)?;
+        Ok(Stepped {
+            outcome: with_messages(outcome, Vec::new(alloc)),
+            reads: Reads::Folders,
+        })
+    }
+
+    /// Whether it isn't known which packages a document can mention, whose text is known.
+    fn is_strange(&self, alloc: Global, uri: &str) -> Result<bool, AllocError> {
+        if self.server.document(uri).is_none() {
             return Ok(false);
-        };
+        }
         match path_of_uri(alloc, uri)? {
-            Some(path) => self
-                .workspace
-                .open(alloc, path.as_str(), uri, document.text()),
+            Some(path) => Ok(self.workspace.is_strange(path.as_str())),
             None => Ok(false),
         }
     }
 
+    /// Takes the text of a document that was opened or changed. Returns which packages were made anew.
+    fn take_text(&mut self, alloc: Global, uri: &str) -> Result<Option<Concerned>, AllocError>
+        ensures { self.new.server ≡ self.old.server }
+    {
+        let Some(document) = self.server.document(uri) else {
+            return Ok(None);
+        };
+        match path_of_uri(alloc, uri)? {
+            Some(path) => {
+                let text = document.text();
+                let concerned = self.workspace.open(alloc, path.as_str(), uri, text)?;
+                Ok(Some(concerned))
+            }
+            None => Ok(None),
+        }
+    }
+
     /// What is told after a document was opened or changed: what is wrong with it, and where packages were made anew what is
-    /// wrong with each.
+    /// wrong with each that they concern.
     fn text_taken(
         &mut self,
         alloc: Global,
@@ -410,9 +517,22 @@ impl Session {
         ensures written { IfOk result (λ outcome. AreReplies outcome.messages.items) }
         ensures keeps { self.new.server ≡ self.old.server }
     {
-        if self.take_text(alloc, uri)? {
-            return Ok(with_messages(outcome, self.refreshed(alloc)?));
+        match self.take_text(alloc, uri)? {
+            Some(concerned) if !concerned.is_empty() => {
+                let messages = self.refreshed(alloc, &concerned)?;
+                Ok(with_messages(outcome, messages))
+            }
+            _ => self.told_anew(alloc, uri, outcome),
         }
+    }
+
+    /// What is told of a document alone: what the workspace says of it, or else what the server does.
+    fn told_anew(&self, alloc: Global, uri: &str, outcome: Outcome) -> Result<Outcome, AllocError>
+        requires ids { replies outcome.messages.items ≡ [] }
+        requires written { AreReplies outcome.messages.items }
+        ensures ids { IfOk result (λ outcome. replies outcome.messages.items ≡ []) }
+        ensures written { IfOk result (λ outcome. AreReplies outcome.messages.items) }
+    {
         match self.said(alloc, uri)? {
             Some(body) => Ok(with_messages(outcome, sends_one(alloc, body)?)),
             None => Ok(outcome),
@@ -431,12 +551,12 @@ impl Session {
         Ok(Some(self.server.publication(alloc, document, said.as_slice())?))
     }
 
-    /// What is told of each open document.
-    fn refreshed(&self, alloc: Global) -> Result<Vec<Sent>, AllocError>
+    /// What is told of each open document that some packages concern.
+    fn refreshed(&self, alloc: Global, concerned: &Concerned) -> Result<Vec<Sent>, AllocError>
         ensures ids { IfOk result (λ messages. replies messages.items ≡ []) }
         ensures written { IfOk result (λ messages. AreReplies messages.items) }
     {
-        all_published(alloc, &self.server, &self.workspace)
+        all_published(alloc, &self.server, &self.workspace, concerned)
     }
 
     /// What the session does after a document was closed, or a change of it was lost: its file stands for itself again, and
@@ -451,28 +571,74 @@ impl Session {
         let Some(path) = path_of_uri(alloc, uri)? else {
             return Ok(stays(outcome));
         };
-        let reads_folders = self.workspace.holds(path.as_str());
-        let _ = self.workspace.close(alloc, path.as_str())?;
+        if !self.workspace.holds(path.as_str()) {
+            return Ok(stays(outcome));
+        }
+        self.workspace.close(alloc, path.as_str())?;
+        // One of another name that is open with this path stands in its place.
+        put_all(alloc, &mut self.workspace, self.server.documents())?;
+        let mut paths = Vec::new(alloc);
+        paths.push(path)?;
         Ok(Stepped {
             outcome,
-            reads_folders,
+            reads: Reads::Files(paths),
         })
+    }
+
+    /// The messages that are sent after something was read: the files that were passed over, and what is wrong with each open
+    /// document that the packages concern that were made anew.
+    #[tactic(auto, using(wac_lsp::proofs::Sending::notified, wac_lsp::proofs::Sending::still_replies))]
+    fn told(&self, alloc: Global, taken: &Taken) -> Result<Vec<Sent>, AllocError>
+        ensures ids { IfOk result (λ messages. replies messages.items ≡ []) }
+        ensures written { IfOk result (λ messages. AreReplies messages.items) }
+    {
+        let mut messages = self.refreshed(alloc, &taken.concerned)?;
+        for line in taken.passed_over.as_slice() {
+            let body = logged(alloc, line.as_str())?;
+            messages.push(Sent::Notification { body })?;
+        }
+        Ok(messages)
     }
 
     /// Takes what was read of the folders. Returns the messages that are sent then: the files that were passed over, and
     /// what is wrong with each open document.
-    #[tactic(auto, using(wac_lsp::proofs::Sending::notified, wac_lsp::proofs::Sending::still_replies))]
     pub fn take(&mut self, alloc: Global, contents: FolderContents) -> Result<Vec<Sent>, AllocError>
         ensures ids { IfOk result (λ messages. replies messages.items ≡ []) }
         ensures written { IfOk result (λ messages. AreReplies messages.items) }
         ensures keeps { self.new.server ≡ self.old.server }
     {
-        let passed_over = self.workspace.take(alloc, contents)?;
-        let mut messages = self.refreshed(alloc)?;
-        for line in passed_over.as_slice() {
-            let body = logged(alloc, line.as_str())?;
-            messages.push(Sent::Notification { body })?;
-        }
+        let taken = self.workspace.take(alloc, contents)?;
+        self.told(alloc, &taken)
+    }
+
+    /// Takes what was read of files that were changed. Returns the messages that are sent then: the files that were passed
+    /// over, and what is wrong with each open document that is concerned.
+    pub fn take_files(
+        &mut self,
+        alloc: Global,
+        contents: FileContents,
+    ) -> Result<Vec<Sent>, AllocError>
+        ensures ids { IfOk result (λ messages. replies messages.items ≡ []) }
+        ensures written { IfOk result (λ messages. AreReplies messages.items) }
+        ensures keeps { self.new.server ≡ self.old.server }
+    {
+        let taken = self.workspace.take_files(alloc, contents)?;
+        self.told(alloc, &taken)
+    }
+
+    /// Takes that memory ran out while the folders were read, or for what is known of them: nothing is known of them then.
+    /// Returns the messages that are sent: that it is so, and what is wrong with each open document by itself.
+    #[tactic(auto, using(wac_lsp::proofs::Sending::notified, wac_lsp::proofs::Sending::still_replies))]
+    pub fn take_nothing(&mut self, alloc: Global) -> Result<Vec<Sent>, AllocError>
+        ensures ids { IfOk result (λ messages. replies messages.items ≡ []) }
+        ensures written { IfOk result (λ messages. AreReplies messages.items) }
+        ensures keeps { self.new.server ≡ self.old.server }
+    {
+        self.workspace.forget(alloc);
+        put_all(alloc, &mut self.workspace, self.server.documents())?;
+        let mut messages = self.refreshed(alloc, &Concerned::all(alloc))?;
+        let body = logged(alloc, NO_MEMORY)?;
+        messages.push(Sent::Notification { body })?;
         Ok(messages)
     }
 }

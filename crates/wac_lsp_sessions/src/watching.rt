@@ -16,13 +16,21 @@ pub(crate) enum Touched {
     Closed(String),
     /// The client has begun.
     Begun,
-    /// The files.
-    Files,
+    /// Files, by their paths: none where it isn't known which.
+    Files(Option<Vec<String>>),
     /// The folders that the client has open, by their paths.
     Folders {
         added: Vec<String>,
         removed: Vec<String>,
     },
+}
+
+/// The paths of files, if they are known: a file of another machine is none.
+fn paths_of(alloc: Global, uris: &Option<Vec<String>>) -> Result<Option<Vec<String>>, AllocError> {
+    match uris {
+        Some(uris) => Ok(Some(folder_paths(alloc, uris.as_slice())?)),
+        None => Ok(None),
+    }
 }
 
 /// What a notification changes of what is known of folders.
@@ -36,7 +44,7 @@ pub(crate) fn touched_by(alloc: Global, notice: &Notice) -> Result<Touched, Allo
             uri.as_str(),
         )?)),
         Notice::Initialized => Ok(Touched::Begun),
-        Notice::FilesChanged => Ok(Touched::Files),
+        Notice::FilesChanged { uris } => Ok(Touched::Files(paths_of(alloc, uris)?)),
         Notice::FoldersChanged { added, removed } => Ok(Touched::Folders {
             added: folder_paths(alloc, added.as_slice())?,
             removed: folder_paths(alloc, removed.as_slice())?,

@@ -91,10 +91,21 @@ impl<'a> Places<'a> {
         first
     }
 
+    /// The offset before the CR LF between whose characters an offset is, and else the offset: the protocol has no place
+    /// there.
+    fn before_line_end(&self, at: usize) -> usize {
+        let start = at.saturating_sub(1);
+        let end = at.saturating_add(1);
+        match self.text.as_bytes().get(start..end) {
+            Some(around) if around == b"\r\n".as_slice() => start,
+            _ => at,
+        }
+    }
+
     /// The place of an offset in bytes, as `Lines::place` has it: within a character that of the character, and past the
-    /// end that of the end.
+    /// end that of the end. Between a CR and its LF it is that of the line's end.
     pub fn place(&self, offset: usize) -> Place {
-        let at = self.text.floor_char_boundary(offset);
+        let at = self.before_line_end(self.text.floor_char_boundary(offset));
         let line = self.line_of(at);
         let before = self.units_before(self.start_of(line));
         Place {

@@ -4,9 +4,9 @@ use crate::denoting::Denoted;
 use crate::kinds::accepted;
 use crate::named::{Named, named_at};
 use crate::offering::named_by;
+use crate::roots::Seen;
 use crate::searching::declared_at;
 use crate::sources::Source;
-use crate::workspace::Workspace;
 use std::alloc::{AllocError, Global};
 use wac_completion::{Foreign, foreign_name_at};
 use wac_lexer::SourceSpan;
@@ -73,9 +73,9 @@ fn owner_of<'t>(foreign: &Foreign<'t>) -> Option<&'t str> {
     }
 }
 
-impl Workspace {
+impl<'w> Seen<'w> {
     /// Where what is named of a package is declared.
-    fn declared(&self, alloc: Global, named: &Named<'_>) -> Result<Option<Found<'_>>, AllocError> {
+    fn declared(self, alloc: Global, named: &Named<'_>) -> Result<Option<Found<'w>>, AllocError> {
         let key = named.key(alloc)?;
         match self.declaring(&key, None) {
             Some(declaring) => Ok(place_in(declaring, declared_at(declaring.text, named))),
@@ -85,11 +85,11 @@ impl Workspace {
 
     /// Where what is denoted is declared: by a text that shows this component, if by no other.
     fn declared_by(
-        &self,
+        self,
         alloc: Global,
         denoted: Denoted<'_>,
         owner: Option<&str>,
-    ) -> Result<Option<Found<'_>>, AllocError> {
+    ) -> Result<Option<Found<'w>>, AllocError> {
         let key = denoted.place.key(alloc)?;
         match self.declaring(&key, owner) {
             Some(declaring) => Ok(place_in(declaring, denoted_in(declaring.text, denoted))),
@@ -98,12 +98,12 @@ impl Workspace {
     }
 
     /// Where the argument or the export that a text names at an offset is declared.
-    fn foreign_at<'x>(
-        &'x self,
+    fn foreign_at(
+        self,
         alloc: Global,
-        text: &'x str,
+        text: &'w str,
         offset: usize,
-    ) -> Result<Option<Found<'x>>, AllocError> {
+    ) -> Result<Option<Found<'w>>, AllocError> {
         let found = match foreign_name_at(alloc, accepted(text), offset) {
             Ok(Some(found)) => found,
             Ok(None) => return Ok(None),
@@ -117,12 +117,12 @@ impl Workspace {
     }
 
     /// Where what a text names of a package at an offset is declared, by a document or by a text that shows a component.
-    pub(crate) fn found_at<'x>(
-        &'x self,
+    pub(crate) fn found_at(
+        self,
         alloc: Global,
-        text: &'x str,
+        text: &'w str,
         offset: usize,
-    ) -> Result<Option<Found<'x>>, AllocError> {
+    ) -> Result<Option<Found<'w>>, AllocError> {
         match named_at(text, offset) {
             Some(named) => self.declared(alloc, &named),
             None => self.foreign_at(alloc, text, offset),
@@ -134,12 +134,12 @@ impl Workspace {
     /// package's world. There is nothing where no document of the folders declares that, as the package of a component.
     ///
     /// An argument that is an identifier without a colon is what the text itself binds, so nothing is said of it here.
-    pub fn declaration_at<'x>(
-        &'x self,
+    pub fn declaration_at(
+        self,
         alloc: Global,
-        text: &'x str,
+        text: &'w str,
         offset: usize,
-    ) -> Result<Option<Declaration<'x>>, AllocError> {
+    ) -> Result<Option<Declaration<'w>>, AllocError> {
         match self.found_at(alloc, text, offset) {
             Ok(Some(found)) => Ok(in_document(found)),
             Ok(None) => Ok(None),

@@ -1,8 +1,8 @@
 //! Which text declares a package.
 use crate::components::ShownPackage;
 use crate::contents::ComponentPackage;
+use crate::roots::Seen;
 use crate::sources::Source;
-use crate::workspace::Workspace;
 use wac_graph::PackageKey;
 
 /// A text that declares a package.
@@ -43,14 +43,10 @@ fn shown_own<'w>(components: &'w [ComponentPackage], key: &PackageKey) -> Option
     None
 }
 
-impl Workspace {
+impl<'w> Seen<'w> {
     /// The text that declares a package: that of its document, or what is shown of a component: of the one of this name,
     /// which mentions the package, and else of the package's own.
-    pub(crate) fn declaring<'w>(
-        &'w self,
-        key: &PackageKey,
-        owner: Option<&str>,
-    ) -> Option<Declaring<'w>> {
+    pub(crate) fn declaring(self, key: &PackageKey, owner: Option<&str>) -> Option<Declaring<'w>> {
         if let Some(source) = self.source_of(key) {
             let text = source.text()?;
             let source = Some(source);

@@ -1,7 +1,7 @@
 //! What names of packages denote.
 use crate::offering::{exports_of, instance_of, key_of, place_of};
 use crate::places::Place;
-use crate::workspace::Workspace;
+use crate::roots::Seen;
 use indexmap::IndexMap;
 use std::alloc::{AllocError, Global};
 use wac_completion::{Foreign, ForeignName, Origin};
@@ -87,13 +87,13 @@ pub(crate) fn imports_of<'n>(package: &'n Package, named: &'n str) -> Option<Lev
     })
 }
 
-impl Workspace {
+impl<'w> Seen<'w> {
     /// What a name of a package denotes. A type that is used is found by its path.
-    pub(crate) fn denoted_by<'n>(
-        &'n self,
+    pub(crate) fn denoted_by(
+        self,
         alloc: Global,
-        found: &ForeignName<'n>,
-    ) -> Result<Option<Denoted<'n>>, AllocError> {
+        found: &ForeignName<'w>,
+    ) -> Result<Option<Denoted<'w>>, AllocError> {
         match &found.foreign {
             Foreign::Argument { package, .. } => {
                 let key = key_named(alloc, package)?;

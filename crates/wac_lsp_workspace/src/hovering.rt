@@ -1,7 +1,7 @@
 //! Of what a text names of packages which text says something.
 use crate::kinds::accepted;
 use crate::named::is_at;
-use crate::workspace::Workspace;
+use crate::roots::Seen;
 use std::alloc::{AllocError, Global};
 use wac_lexer::{Lexer, SourceSpan, Token};
 
@@ -39,19 +39,19 @@ pub(crate) fn name_at(text: &str, offset: usize) -> Option<SourceSpan> {
     None
 }
 
-impl Workspace {
+impl<'w> Seen<'w> {
     /// Which text declares what a text names of a package at an offset, and where: as `declaration_at` says it, and of the
     /// package of a component in the text that `wacx package` shows of it.
     ///
     /// ```text
     /// workspace.described_at(alloc, "package a:b; import x: c:d/e; export x.f;", 40)?;     // `f`, at 39+1, in the text of c:d
     /// ```
-    pub fn described_at<'x>(
-        &'x self,
+    pub fn described_at(
+        self,
         alloc: Global,
-        text: &'x str,
+        text: &'w str,
         offset: usize,
-    ) -> Result<Option<Described<'x>>, AllocError> {
+    ) -> Result<Option<Described<'w>>, AllocError> {
         let Some(at) = name_at(text, offset) else {
             return Ok(None);
         };

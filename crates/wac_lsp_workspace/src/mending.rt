@@ -3,6 +3,7 @@ use crate::hovering::name_at;
 use crate::kinds::accepted;
 use crate::named::text_at;
 use crate::offering::Offers;
+use crate::roots::Seen;
 use crate::workspace::Workspace;
 use std::alloc::{AllocError, Global};
 use wac_diagnostics::Diagnostic;
@@ -144,10 +145,10 @@ fn filled(alloc: Global, text: &str, package: SourceSpan) -> Result<Option<Cure>
     }))
 }
 
-impl Workspace {
+impl<'w> Seen<'w> {
     /// The edit that writes the name that was probably meant in the place of the one that a span ends with.
     fn renamed(
-        &self,
+        self,
         alloc: Global,
         text: &str,
         span: SourceSpan,
@@ -166,7 +167,7 @@ impl Workspace {
 
     /// The edit that probably mends what a diagnostic tells of a text.
     fn cure(
-        &self,
+        self,
         alloc: Global,
         text: &str,
         diagnostic: &Diagnostic,
@@ -182,7 +183,9 @@ impl Workspace {
             Ok(None)
         }
     }
+}
 
+impl Workspace {
     /// What is wrong with a document of the folders, as `diagnose` says it, each with the edit that probably mends it, where
     /// there is one: the name most like one that a package doesn't have, and `...` after arguments of which one is missing.
     ///
@@ -192,7 +195,7 @@ impl Workspace {
     pub fn mended(&self, alloc: Global, path: &str, text: &str) -> Result<Vec<Mended>, AllocError> {
         let mut mends = Vec::new(alloc);
         for diagnostic in self.diagnose(alloc, path, text)? {
-            if let Some(cure) = self.cure(alloc, text, &diagnostic)? {
+            if let Some(cure) = self.at(path).cure(alloc, text, &diagnostic)? {
                 let Cure { title, span, text } = cure;
                 mends.push(Mended {
                     diagnostic,

@@ -3,7 +3,7 @@ use crate::denoting::{Level, imports_of, level_after};
 use crate::details::{Declared, detail};
 use crate::named::{named_in, segments_of};
 use crate::places::Place;
-use crate::workspace::Workspace;
+use crate::roots::Seen;
 use indexmap::IndexMap;
 use std::alloc::{AllocError, Global};
 use wac_completion::{Asked, Foreign, Origin, foreign_at, package_at};
@@ -285,15 +285,15 @@ fn form_of(foreign: &Foreign<'_>) -> Form {
     }
 }
 
-impl Workspace {
+impl<'w> Seen<'w> {
     /// The package of a key.
-    pub(crate) fn package(&self, key: &PackageKey) -> Option<&Package> {
+    pub(crate) fn package(self, key: &PackageKey) -> Option<&'w Package> {
         self.known_packages().get(key)
     }
 
     /// The text that declares the names of a place, if their types are to be shown.
-    fn declared_in<'w>(
-        &'w self,
+    fn declared_in(
+        self,
         alloc: Global,
         level: Level<'w>,
         owner: Option<&str>,
@@ -313,8 +313,8 @@ impl Workspace {
     }
 
     /// The names of a place that are wanted.
-    fn names_of<'w>(
-        &'w self,
+    fn names_of(
+        self,
         alloc: Global,
         level: Option<Level<'w>>,
         owner: Option<&str>,
@@ -333,8 +333,8 @@ impl Workspace {
     }
 
     /// The imports of a package that are wanted.
-    fn arguments<'w>(
-        &'w self,
+    fn arguments(
+        self,
         alloc: Global,
         package: &'w str,
         wanted: Wanted<'w>,
@@ -350,8 +350,8 @@ impl Workspace {
     }
 
     /// The exports of an instance that are wanted.
-    fn exports<'w>(
-        &'w self,
+    fn exports(
+        self,
         alloc: Global,
         origin: Origin<'w>,
         along: &[&str],
@@ -368,8 +368,8 @@ impl Workspace {
     }
 
     /// The types of an interface of a package that are wanted.
-    fn types<'w>(
-        &'w self,
+    fn types(
+        self,
         alloc: Global,
         path: &'w str,
         wanted: Wanted<'w>,
@@ -383,7 +383,7 @@ impl Workspace {
 
     /// What of a package can stand at an offset, in a form: arguments that aren't given yet, and types that aren't used.
     fn foreign(
-        &self,
+        self,
         alloc: Global,
         foreign: &Foreign<'_>,
         form: Form,
@@ -402,7 +402,7 @@ impl Workspace {
     }
 
     /// What of a package is asked for, in front of a text.
-    fn offered(&self, alloc: Global, asked: &Asked<'_>, rest: &str) -> Result<Offers, AllocError> {
+    fn offered(self, alloc: Global, asked: &Asked<'_>, rest: &str) -> Result<Offers, AllocError> {
         let form = match asked.quote {
             Some(_) => form_before(rest),
             None => form_of(&asked.foreign),
@@ -414,7 +414,7 @@ impl Workspace {
     }
 
     /// The names of packages and the paths that can stand at an offset.
-    fn packages_at(&self, alloc: Global, text: &str, offset: usize) -> Result<Offers, AllocError> {
+    fn packages_at(self, alloc: Global, text: &str, offset: usize) -> Result<Offers, AllocError> {
         match package_at(alloc, text, offset) {
             Ok(Some(word)) => self.named_packages(alloc, word),
             Ok(None) => Ok(Offers {
@@ -441,7 +441,7 @@ impl Workspace {
     /// workspace.names_at(alloc, "package a:b; let x = new c:", 27)?;          // `c:d`, from 25 on
     /// workspace.names_at(alloc, "package a:b; import x: c:d/", 27)?;          // `c:d/log`, from 23 on
     /// ```
-    pub fn names_at(&self, alloc: Global, text: &str, offset: usize) -> Result<Offers, AllocError> {
+    pub fn names_at(self, alloc: Global, text: &str, offset: usize) -> Result<Offers, AllocError> {
         match foreign_at(alloc, text, offset) {
             Ok(Some(asked)) => self.offered(alloc, &asked, text.get(offset..).unwrap_or("")),
             Ok(None) => self.packages_at(alloc, text, offset),

@@ -1,29 +1,35 @@
 //! The packages that the documents and components of folders have.
-use crate::contents::ComponentPackage;
-use crate::sources::Source;
+use crate::contents::{ComponentPackage, FoundRoot};
+use crate::mentions::Concerned;
+use crate::sources::{Source, with_mentioned};
 use indexmap::IndexMap;
 use std::alloc::{AllocError, Global};
+use std::collections::BTreeMap;
 use wac_declared_packages::copied_package;
-use wac_graph::Package;
-use wac_package_errors::{Declared, KnownPackages, declare_all};
+use wac_graph::{Package, PackageKey};
+use wac_package_errors::{DeclarationFault, Declared, KnownPackages, Searched, declare_all};
 use wac_package_names::key_named;
 
-/// The packages that the documents and components of folders have.
+/// The packages that documents and components have.
 #[derive(Drop)]
 pub(crate) struct Packages {
+    /// The numbers of texts are those of `names`.
     declared: Declared,
-    /// The names of the documents, and after them those of the components.
+    /// The names of the components, and after them those of the sources.
     names: Vec<String>,
-    /// The numbers of the sources of the documents.
-    sources: Vec<usize>,
+    /// How many components there are.
+    components: usize,
+    /// The folders in which components were looked for.
+    searched: Vec<String>,
+    /// Files of components there from whose paths no name of a package follows.
+    misplaced: Vec<String>,
 }
 
-/// The texts that declare packages, with their names and the numbers of their sources.
+/// Texts that declare packages, with the numbers of their sources.
 #[derive(Drop)]
 struct Listed<'s> {
     texts: Vec<&'s str>,
-    names: Vec<String>,
-    sources: Vec<usize>,
+    numbers: Vec<usize>,
 }
 
 /// What is after a folder and a slash in a path.
@@ -41,38 +47,37 @@ fn below<'p>(folders: &[String], path: &'p str) -> &'p str {
     path
 }
 
-impl<'s> Listed<'s> {
-    /// Adds a source, if a text of it declares a package.
-    fn add(
-        &mut self,
-        alloc: Global,
-        folders: &[String],
-        number: usize,
-        source: &'s Source,
-    ) -> Result<(), AllocError> {
-        if let Some(text) = source.text() {
-            let name = below(folders, source.path.as_str());
-            self.texts.push(text)?;
-            self.names.push(String::from_str(alloc, name)?)?;
-            self.sources.push(number)?;
-        }
-        Ok(())
-    }
-}
-
-/// The texts of sources that declare packages.
-fn texts_of<'s>(
+/// Paths, as the client's folders have them.
+fn names_below(
     alloc: Global,
     folders: &[String],
+    paths: &[String],
+) -> Result<Vec<String>, AllocError> {
+    let mut names = Vec::with_capacity(alloc, paths.len())?;
+    for path in paths {
+        names.push(String::from_str(alloc, below(folders, path.as_str()))?)?;
+    }
+    Ok(names)
+}
+
+/// The texts of the documents that declare some packages.
+fn texts_of<'s>(
+    alloc: Global,
     sources: &'s [Source],
+    needed: &Concerned,
 ) -> Result<Listed<'s>, AllocError> {
     let mut listed = Listed {
         texts: Vec::new(alloc),
-        names: Vec::new(alloc),
-        sources: Vec::new(alloc),
+        numbers: Vec::new(alloc),
     };
     for number in 0..sources.len() {
-        listed.add(alloc, folders, number, &sources[number])?;
+        let source = &sources[number];
+        if let Some(text) = source.text() {
+            if needed.has(source.links.own.as_str()) {
+                listed.texts.push(text)?;
+                listed.numbers.push(number)?;
+            }
+        }
     }
     Ok(listed)
 }
@@ -92,70 +97,345 @@ fn copied(alloc: Global, package: &Package) -> Result<Package, AllocError> {
     }
 }
 
+/// A copy of a key.
+fn copied_key(alloc: Global, key: &PackageKey) -> Result<PackageKey, AllocError> {
+    let version = match &key.version {
+        Some(version) => Some(String::from_str(alloc, version.as_str())?),
+        None => None,
+    };
+    Ok(PackageKey {
+        name: String::from_str(alloc, key.name.as_str())?,
+        version,
+    })
+}
+
+/// The packages of a list that a change doesn't concern.
+fn packages_left(
+    alloc: Global,
+    packages: IndexMap<PackageKey, Package>,
+    concerned: &Concerned,
+) -> Result<IndexMap<PackageKey, Package>, AllocError> {
+    let mut left = IndexMap::new(alloc);
+    for (key, package) in packages {
+        if !concerned.has(key.name.as_str()) {
+            left.insert(key, package)?;
+        }
+    }
+    Ok(left)
+}
+
+/// The same of the numbers of texts.
+fn texts_left(
+    alloc: Global,
+    texts: IndexMap<PackageKey, usize>,
+    concerned: &Concerned,
+) -> Result<IndexMap<PackageKey, usize>, AllocError> {
+    let mut left = IndexMap::new(alloc);
+    for (key, text) in texts {
+        if !concerned.has(key.name.as_str()) {
+            left.insert(key, text)?;
+        }
+    }
+    Ok(left)
+}
+
+/// Whether a change concerns the package of a document, or the document declares none any more.
+fn is_concerned(sources: &[Source], number: usize, concerned: &Concerned) -> bool {
+    match sources.get(number) {
+        Some(source) => source.text().is_none() || concerned.has(source.links.own.as_str()),
+        None => true,
+    }
+}
+
+/// The faults of documents that a change doesn't concern.
+fn faults_left(
+    alloc: Global,
+    faults: Vec<DeclarationFault>,
+    sources: &[Source],
+    concerned: &Concerned,
+) -> Result<Vec<DeclarationFault>, AllocError> {
+    let mut left = Vec::new(alloc);
+    for fault in faults {
+        if !is_concerned(sources, fault.text, concerned) {
+            left.push(fault)?;
+        }
+    }
+    Ok(left)
+}
+
+/// The numbers of texts in their order, those of so many components last.
+fn sorted_texts(
+    alloc: Global,
+    texts: IndexMap<PackageKey, usize>,
+    components: usize,
+) -> Result<IndexMap<PackageKey, usize>, AllocError> {
+    let mut keys = BTreeMap::new(alloc);
+    for (key, number) in texts {
+        keys.insert(number.wrapping_sub(components), (key, number))?;
+    }
+    let mut sorted = IndexMap::new(alloc);
+    for (key, number) in keys.into_values() {
+        sorted.insert(key, number)?;
+    }
+    Ok(sorted)
+}
+
+/// Packages in the order of their texts.
+fn sorted_packages(
+    alloc: Global,
+    packages: IndexMap<PackageKey, Package>,
+    texts: &IndexMap<PackageKey, usize>,
+) -> Result<IndexMap<PackageKey, Package>, AllocError> {
+    let mut places = BTreeMap::new(alloc);
+    for (key, package) in packages {
+        let place = texts.get_index_of(&key).unwrap_or(texts.len());
+        places.insert(place, (key, package))?;
+    }
+    let mut sorted = IndexMap::new(alloc);
+    for (key, package) in places.into_values() {
+        sorted.insert(key, package)?;
+    }
+    Ok(sorted)
+}
+
+/// Nothing that is declared.
+fn nothing(alloc: Global) -> Declared {
+    Declared {
+        packages: IndexMap::new(alloc),
+        texts: IndexMap::new(alloc),
+        faults: Vec::new(alloc),
+    }
+}
+
 impl Packages {
     /// No packages.
     pub(crate) fn none(alloc: Global) -> Packages {
         Packages {
-            declared: Declared {
-                packages: IndexMap::new(alloc),
-                texts: IndexMap::new(alloc),
-                faults: Vec::new(alloc),
-            },
+            declared: nothing(alloc),
             names: Vec::new(alloc),
-            sources: Vec::new(alloc),
+            components: 0,
+            searched: Vec::new(alloc),
+            misplaced: Vec::new(alloc),
         }
     }
 
-    /// The packages that the documents of sources declare, and those of components that none of them declares.
-    pub(crate) fn of(
+    /// No packages, with the names of the components of a root, as the client's folders have them.
+    pub(crate) fn of_root(
         alloc: Global,
         folders: &[String],
-        sources: &[Source],
-        components: &[ComponentPackage],
+        root: &FoundRoot,
     ) -> Result<Packages, AllocError> {
-        let mut packages = Packages::declared(alloc, folders, sources)?;
-        for component in components {
-            packages.add(alloc, folders, component)?;
+        let mut packages = Packages::none(alloc);
+        packages.components = root.components.len();
+        for component in root.components.as_slice() {
+            packages.name(alloc, folders, component.path.as_str())?;
         }
+        packages.searched = names_below(alloc, folders, root.folders.as_slice())?;
+        packages.misplaced = names_below(alloc, folders, root.misplaced.as_slice())?;
         Ok(packages)
     }
 
-    /// The packages that the documents of sources declare.
-    fn declared(
-        alloc: Global,
-        folders: &[String],
-        sources: &[Source],
-    ) -> Result<Packages, AllocError> {
-        let Listed {
-            texts,
-            names,
-            sources,
-        } = texts_of(alloc, folders, sources)?;
-        match declare(alloc, texts.as_slice()) {
-            Ok(declared) => Ok(Packages {
-                declared,
-                names,
-                sources,
-            }),
-            Err(_) => Err(AllocError),
-        }
+    /// Adds the name of the next source.
+    fn name(&mut self, alloc: Global, folders: &[String], path: &str) -> Result<(), AllocError> {
+        let name = below(folders, path);
+        self.names.push(String::from_str(alloc, name)?)?;
+        Ok(())
     }
 
-    /// Adds the package of a component, unless a document declares it. That of a component with an error is noted alone:
-    /// what mentions it isn't resolved.
-    fn add(
+    /// Adds the names of the sources that have none.
+    pub(crate) fn name_sources(
         &mut self,
         alloc: Global,
         folders: &[String],
+        sources: &[Source],
+    ) -> Result<(), AllocError> {
+        let named = self.names.len().saturating_sub(self.components);
+        for number in named..sources.len() {
+            self.name(alloc, folders, sources[number].path.as_str())?;
+        }
+        Ok(())
+    }
+
+    /// Forgets the packages that a change concerns.
+    fn forget(
+        &mut self,
+        alloc: Global,
+        sources: &[Source],
+        concerned: &Concerned,
+    ) -> Result<(), AllocError> {
+        let declared = std::mem::replace(&mut self.declared, nothing(alloc));
+        let Declared {
+            packages,
+            texts,
+            faults,
+        } = declared;
+        self.declared.packages = packages_left(alloc, packages, concerned)?;
+        self.declared.texts = texts_left(alloc, texts, concerned)?;
+        self.declared.faults = faults_left(alloc, faults, sources, concerned)?;
+        Ok(())
+    }
+
+    /// Declares the packages of documents anew that a change concerns.
+    pub(crate) fn renew(
+        &mut self,
+        alloc: Global,
+        sources: &[Source],
+        concerned: &Concerned,
+    ) -> Result<(), AllocError> {
+        self.forget(alloc, sources, concerned)?;
+        let needed = with_mentioned(alloc, sources, concerned)?;
+        let listed = texts_of(alloc, sources, &needed)?;
+        match declare(alloc, listed.texts.as_slice()) {
+            Ok(declared) => self.put(sources, declared, &listed, concerned)?,
+            Err(_) => return Err(AllocError),
+        }
+        self.sort(alloc)
+    }
+
+    /// Brings the packages into the order of the documents, those of components last.
+    fn sort(&mut self, alloc: Global) -> Result<(), AllocError> {
+        let texts = std::mem::replace(&mut self.declared.texts, IndexMap::new(alloc));
+        self.declared.texts = sorted_texts(alloc, texts, self.components)?;
+        let packages = std::mem::replace(&mut self.declared.packages, IndexMap::new(alloc));
+        self.declared.packages = sorted_packages(alloc, packages, &self.declared.texts)?;
+        Ok(())
+    }
+
+    /// Puts what was declared of packages that a change concerns.
+    fn put(
+        &mut self,
+        sources: &[Source],
+        declared: Declared,
+        listed: &Listed<'_>,
+        concerned: &Concerned,
+    ) -> Result<(), AllocError> {
+        let Declared {
+            packages,
+            texts,
+            faults,
+        } = declared;
+        self.put_packages(packages, concerned)?;
+        self.put_texts(texts, listed.numbers.as_slice(), concerned)?;
+        self.put_faults(sources, faults, listed.numbers.as_slice(), concerned)
+    }
+
+    /// Puts packages that a change concerns.
+    fn put_packages(
+        &mut self,
+        packages: IndexMap<PackageKey, Package>,
+        concerned: &Concerned,
+    ) -> Result<(), AllocError> {
+        for (key, package) in packages {
+            if concerned.has(key.name.as_str()) {
+                self.declared.packages.insert(key, package)?;
+            }
+        }
+        Ok(())
+    }
+
+    /// Puts which source declares each package that a change concerns, of texts whose sources have these numbers.
+    fn put_texts(
+        &mut self,
+        texts: IndexMap<PackageKey, usize>,
+        numbers: &[usize],
+        concerned: &Concerned,
+    ) -> Result<(), AllocError> {
+        for (key, text) in texts {
+            if concerned.has(key.name.as_str()) {
+                if let Some(number) = numbers.get(text) {
+                    self.declared.texts.insert(key, *number)?;
+                }
+            }
+        }
+        Ok(())
+    }
+
+    /// Puts the faults of documents that a change concerns, of texts whose sources have these numbers.
+    fn put_faults(
+        &mut self,
+        sources: &[Source],
+        faults: Vec<DeclarationFault>,
+        numbers: &[usize],
+        concerned: &Concerned,
+    ) -> Result<(), AllocError> {
+        for fault in faults {
+            let DeclarationFault { text, error } = fault;
+            if let Some(number) = numbers.get(text) {
+                if is_concerned(sources, *number, concerned) {
+                    self.declared.faults.push(DeclarationFault {
+                        text: *number,
+                        error,
+                    })?;
+                }
+            }
+        }
+        Ok(())
+    }
+
+    /// Takes the packages that a change concerns anew: those of documents, and those of components that no document
+    /// declares.
+    pub(crate) fn renew_with(
+        &mut self,
+        alloc: Global,
+        documents: &Packages,
+        components: &[ComponentPackage],
+        concerned: &Concerned,
+    ) -> Result<(), AllocError> {
+        self.forget(alloc, &[], concerned)?;
+        self.copy_packages(alloc, documents, concerned)?;
+        self.copy_texts(alloc, documents, concerned)?;
+        for number in 0..components.len() {
+            self.add(alloc, number, &components[number], concerned)?;
+        }
+        self.sort(alloc)
+    }
+
+    /// Adds copies of the packages of documents that a change concerns.
+    fn copy_packages(
+        &mut self,
+        alloc: Global,
+        documents: &Packages,
+        concerned: &Concerned,
+    ) -> Result<(), AllocError> {
+        for (key, package) in documents.declared.packages.iter() {
+            if concerned.has(key.name.as_str()) {
+                let key = copied_key(alloc, key)?;
+                self.declared.packages.insert(key, copied(alloc, package)?)?;
+            }
+        }
+        Ok(())
+    }
+
+    /// Adds which source declares each of them.
+    fn copy_texts(
+        &mut self,
+        alloc: Global,
+        documents: &Packages,
+        concerned: &Concerned,
+    ) -> Result<(), AllocError> {
+        for (key, source) in documents.declared.texts.iter() {
+            if concerned.has(key.name.as_str()) {
+                let number = source.saturating_add(self.components);
+                self.declared.texts.insert(copied_key(alloc, key)?, number)?;
+            }
+        }
+        Ok(())
+    }
+
+    /// Adds the package of the component of a number, if a change concerns it and no document declares it. That of a
+    /// component with an error is noted alone: what mentions it isn't resolved.
+    fn add(
+        &mut self,
+        alloc: Global,
+        number: usize,
         component: &ComponentPackage,
+        concerned: &Concerned,
     ) -> Result<(), AllocError> {
         let key = key_named(alloc, component.key.as_str())?;
-        if self.declared.texts.contains_key(&key) {
+        if !concerned.has(key.name.as_str()) || self.declared.texts.contains_key(&key) {
             return Ok(());
         }
-        self.declared.texts.insert(key, self.names.len())?;
-        let name = below(folders, component.path.as_str());
-        self.names.push(String::from_str(alloc, name)?)?;
+        self.declared.texts.insert(key, number)?;
         match &component.package {
             Some(package) => self.supply(alloc, component.key.as_str(), package),
             None => Ok(()),
@@ -170,34 +450,26 @@ impl Packages {
         Ok(())
     }
 
-    /// Whether there are none, faulty ones neither.
-    pub(crate) fn is_empty(&self) -> bool {
-        self.declared.texts.is_empty()
-    }
-
     /// What is known with them.
     pub(crate) fn known(&self) -> KnownPackages<'_> {
         KnownPackages {
             declared: &self.declared,
             names: self.names.as_slice(),
+            searched: Searched::Paths {
+                paths: self.searched.as_slice(),
+                misplaced: self.misplaced.as_slice(),
+            },
         }
     }
 
-    /// The number of the document that a source is, if it declares a package.
-    pub(crate) fn document_of(&self, source: usize) -> Option<usize> {
-        for number in 0..self.sources.len() {
-            if self.sources.as_slice()[number] == source {
-                return Some(number);
-            }
-        }
-        None
+    /// What is wrong with documents, by the numbers of their sources.
+    pub(crate) fn faults(&self) -> &[DeclarationFault] {
+        self.declared.faults.as_slice()
     }
 
-    /// The number of the source of a document.
-    pub(crate) fn source_of(&self, document: usize) -> Option<usize> {
-        match self.sources.as_slice().get(document) {
-            Some(source) => Some(*source),
-            None => None,
-        }
+    /// The number of the source that declares a package, if a document does.
+    pub(crate) fn source_of(&self, key: &PackageKey) -> Option<usize> {
+        let number = *self.declared.texts.get(key)?;
+        number.checked_sub(self.components)
     }
 }

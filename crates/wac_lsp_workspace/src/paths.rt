@@ -1,6 +1,6 @@
 //! The packages that can stand at an offset, and the paths in them.
 use crate::offering::{Offer, Offered, Offers, exports_along, sort_of};
-use crate::workspace::Workspace;
+use crate::roots::Seen;
 use indexmap::IndexMap;
 use std::alloc::{AllocError, Global};
 use wac_completion::PackageWord;
@@ -102,9 +102,9 @@ fn add_paths(
     Ok(())
 }
 
-impl Workspace {
+impl<'w> Seen<'w> {
     /// The packages, each by its name with the version.
-    fn all_packages(&self, alloc: Global) -> Result<Vec<Offer>, AllocError> {
+    fn all_packages(self, alloc: Global) -> Result<Vec<Offer>, AllocError> {
         let mut offers = Vec::new(alloc);
         for (key, _) in self.known_packages() {
             let name = with_version(alloc, key.name.as_str(), key)?;
@@ -114,7 +114,7 @@ impl Workspace {
     }
 
     /// The paths of all definitions of all packages.
-    fn all_paths(&self, alloc: Global) -> Result<Vec<Offer>, AllocError> {
+    fn all_paths(self, alloc: Global) -> Result<Vec<Offer>, AllocError> {
         let mut offers = Vec::new(alloc);
         for (key, package) in self.known_packages() {
             add_paths(alloc, &mut offers, key, package, "")?;
@@ -123,7 +123,7 @@ impl Workspace {
     }
 
     /// The paths through a parent, in each version of its package.
-    fn paths_through(&self, alloc: Global, parent: Parent<'_>) -> Result<Vec<Offer>, AllocError> {
+    fn paths_through(self, alloc: Global, parent: Parent<'_>) -> Result<Vec<Offer>, AllocError> {
         let mut offers = Vec::new(alloc);
         for (key, package) in self.known_packages() {
             if key.name.as_str() == parent.package {
@@ -135,7 +135,7 @@ impl Workspace {
 
     /// The names of packages and the paths that can stand in the place of what is written.
     pub(crate) fn named_packages(
-        &self,
+        self,
         alloc: Global,
         word: PackageWord<'_>,
     ) -> Result<Offers, AllocError> {

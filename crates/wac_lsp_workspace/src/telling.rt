@@ -1,30 +1,24 @@
 //! What is wrong with the documents of folders.
-use crate::packages::Packages;
 use std::alloc::{AllocError, Global};
 use wac_diagnostics::Diagnostic;
 use wac_first_error::Reading;
 use wac_package_errors::{
-    Composed, KnownPackages, declaration_diagnostic, first_error_with, flat_text, warnings_of,
+    Composed, DeclarationFault, KnownPackages, declaration_diagnostic, first_error_with, flat_text,
+    warnings_of,
 };
-
-/// What the command's help says where no file has a package.
-const NO_FILE: &str = "no file of --packages has it";
-
-/// The same of the folders of an editor.
-const NO_FILE_OF_FOLDERS: &str = "no file of the folders has it";
 
 /// The code of an instantiation of a package of which no world is chosen.
 const NO_WORLD: &str = "wac::no-world";
 
-/// What is wrong with the document of this number, which declares a package or is to.
+/// What of some faults is wrong with the document of this number, which declares a package or is to.
 pub(crate) fn declaration_fault(
     alloc: Global,
-    packages: &Packages,
+    faults: &[DeclarationFault],
+    known: KnownPackages<'_>,
     document: usize,
     text: &str,
 ) -> Result<Vec<Diagnostic>, AllocError> {
-    let known = packages.known();
-    for fault in known.declared.faults.as_slice() {
+    for fault in faults {
         if fault.text == document {
             let diagnostic = declaration_diagnostic(alloc, text, &fault.error, known)?;
             return shown_in_editor(alloc, diagnostic);
@@ -69,23 +63,7 @@ fn asks_for_option(diagnostic: &Diagnostic) -> bool {
 fn shown_in_editor(alloc: Global, diagnostic: Diagnostic) -> Result<Vec<Diagnostic>, AllocError> {
     let mut all = Vec::new(alloc);
     if !asks_for_option(&diagnostic) {
-        all.push(for_editor(alloc, diagnostic)?)?;
+        all.push(diagnostic)?;
     }
     Ok(all)
-}
-
-/// Whether the help of a diagnostic says that no file of the command has a package.
-fn names_no_file(diagnostic: &Diagnostic) -> bool {
-    match &diagnostic.help {
-        Some(help) => help.as_str() == NO_FILE,
-        None => false,
-    }
-}
-
-/// A diagnostic whose help speaks of folders, and not of options.
-fn for_editor(alloc: Global, mut diagnostic: Diagnostic) -> Result<Diagnostic, AllocError> {
-    if names_no_file(&diagnostic) {
-        diagnostic.help = Some(String::from_str(alloc, NO_FILE_OF_FOLDERS)?);
-    }
-    Ok(diagnostic)
 }

@@ -1,6 +1,7 @@
 //! The documents below a folder.
 ghost use Rattle.std.specs.Prelude.{◌≡◌};
 
+use crate::packages::path_below;
 use std::alloc::{AllocError, Global};
 use wac_files::{FileError, FileSystem, Kind};
 
@@ -9,7 +10,9 @@ const MOST_NAMES: u32 = 100_000;
 
 /// A walk over the folders below one.
 #[derive(Drop)]
-struct Walk {
+struct Walk<'r> {
+    // The resolved path of the folder, out of which no link is followed.
+    root: &'r str,
     // What is to be looked at, the next one last.
     pending: Vec<String>,
     found: Vec<String>,
@@ -18,15 +21,17 @@ struct Walk {
 /// The files below a folder whose names end in `.wac`, in the order of their names' bytes.
 ///
 /// Left out are names that begin with a dot and names that aren't UTF-8, folders called `target` or `node_modules`, links
-/// to folders, and what can't be looked at. At most 100,000 names are looked at.
+/// to folders, links to files that aren't below `root`, and what can't be looked at. At most 100,000 names are looked at.
 pub(crate) fn documents_below<F: FileSystem>(
     alloc: Global,
     files: &mut F,
     folder: &str,
+    root: &str,
 ) -> Result<Vec<String>, AllocError>
     ensures { F.replaced files.new ≡ F.replaced files.old }
 {
     let mut walk = Walk {
+        root,
         pending: Vec::new(alloc),
         found: Vec::new(alloc),
     };
@@ -41,31 +46,64 @@ pub(crate) fn documents_below<F: FileSystem>(
 }
 
 /// Whether a name is passed over.
-fn is_passed_over(name: &str) -> bool {
+pub(crate) fn is_passed_over(name: &str) -> bool {
     name.starts_with('.') || name == "target" || name == "node_modules"
 }
 
 /// Whether a path is that of a document, by its name.
-fn is_document(path: &str) -> bool {
+pub(crate) fn is_document(path: &str) -> bool {
     path.ends_with(".wac")
 }
 
-/// What a path is taken as: nothing where it is neither a folder nor a document.
-fn kind_of<F: FileSystem>(files: &mut F, path: &str) -> Option<Kind>
+/// Whether a path leads to one below another, whose resolved path that is.
+pub(crate) fn leads_below<F: FileSystem>(
+    alloc: Global,
+    files: &mut F,
+    path: &str,
+    root: &str,
+) -> Result<bool, AllocError>
     ensures { F.replaced files.new ≡ F.replaced files.old }
 {
-    match files.kind(path) {
-        Ok(Kind::Folder) => Some(Kind::Folder),
-        Ok(Kind::File) if is_document(path) => Some(Kind::File),
-        Ok(Kind::Link) if is_document(path) => match files.target(path) {
-            Ok(Kind::File) => Some(Kind::File),
-            _ => None,
-        },
-        _ => None,
+    match files.resolve(alloc, path) {
+        Ok(resolved) => Ok(path_below(root, resolved.as_str()).is_some()),
+        Err(FileError::OutOfMemory) => Err(AllocError),
+        Err(_) => Ok(false),
     }
 }
 
-impl Walk {
+/// What a path is taken as: nothing where it is neither a folder nor a document, or leads out of `root`.
+fn kind_of<F: FileSystem>(
+    alloc: Global,
+    files: &mut F,
+    path: &str,
+    root: &str,
+) -> Result<Option<Kind>, AllocError>
+    ensures { F.replaced files.new ≡ F.replaced files.old }
+{
+    match files.kind(path) {
+        Ok(Kind::Folder) => Ok(Some(Kind::Folder)),
+        Ok(Kind::File) if is_document(path) => Ok(Some(Kind::File)),
+        Ok(Kind::Link) if is_document(path) => linked_kind(alloc, files, path, root),
+        _ => Ok(None),
+    }
+}
+
+/// The same of a link.
+fn linked_kind<F: FileSystem>(
+    alloc: Global,
+    files: &mut F,
+    path: &str,
+    root: &str,
+) -> Result<Option<Kind>, AllocError>
+    ensures { F.replaced files.new ≡ F.replaced files.old }
+{
+    match files.target(path) {
+        Ok(Kind::File) if leads_below(alloc, files, path, root)? => Ok(Some(Kind::File)),
+        _ => Ok(None),
+    }
+}
+
+impl<'r> Walk<'r> {
     /// Looks at the next path. Returns whether there was one.
     fn step<F: FileSystem>(&mut self, alloc: Global, files: &mut F) -> Result<bool, AllocError>
         ensures { F.replaced files.new ≡ F.replaced files.old }
@@ -73,7 +111,7 @@ impl Walk {
         let Some(path) = self.pending.pop() else {
             return Ok(false);
         };
-        match kind_of(files, path.as_str()) {
+        match kind_of(alloc, files, path.as_str(), self.root)? {
             Some(Kind::Folder) => self.folder(alloc, files, path.as_str())?,
             Some(_) => self.found.push(path)?,
             None => {}

@@ -3,12 +3,16 @@
 use crate::known::KnownPackages;
 use crate::order::order_help;
 use crate::texts::text_at;
+use crate::unknown::unknown_help;
 use crate::wit::syntax_diagnostic;
 use std::alloc::{AllocError, Global};
+use wac_ast::Document;
 use wac_declared_packages::DeclarationError;
 use wac_diagnostics::Diagnostic;
 use wac_first_error::{parse_code, resolution_code, resolution_diagnostic};
 use wac_lexer::SourceSpan;
+use wac_printer::Page;
+use wac_resolution::packages;
 use wac_resolution_errors::Error;
 
 /// The code of an error of declaring a package.
@@ -21,6 +25,7 @@ fn declaration_code(error: &DeclarationError) -> &'static str {
         DeclarationError::DeclaredTwice(_) => "wac::declared-twice",
         DeclarationError::UnknownPackage(_) => "wac::unknown-package",
         DeclarationError::Cycle(_) => "wac::package-cycle",
+        DeclarationError::TooLarge(_) => "wac::packages-too-large",
         DeclarationError::Resolution(error) => resolution_code(error),
         DeclarationError::Parts(_) | DeclarationError::Unmade => "wac::no-package",
         DeclarationError::Memory(_) => "wac::out-of-memory",
@@ -37,6 +42,7 @@ fn help_for(error: &DeclarationError) -> Option<&'static str> {
         DeclarationError::NoSuchWorld(_) => Some("name one of its worlds by --world"),
         DeclarationError::DeclaredTwice(_) => Some("remove one of the two documents"),
         DeclarationError::Cycle(_) => Some("move what both need into a package of its own"),
+        DeclarationError::TooLarge(_) => Some("let packages mention fewer of those that mention others"),
         _ => None,
     }
 }
@@ -75,7 +81,42 @@ fn package_at(text: &str, place: SourceSpan) -> &str {
     }
 }
 
-/// What is said of a package that no document declares, with the versions that are declared.
+/// What can be done about the package that a text mentions at a place.
+fn help_at(
+    alloc: Global,
+    text: &str,
+    place: SourceSpan,
+    known: KnownPackages<'_>,
+) -> Result<Option<String>, AllocError> {
+    match Document::parse(alloc, text) {
+        Ok(document) => help_in(
+            Page {
+                document: &document,
+            },
+            alloc,
+            place,
+            known,
+        ),
+        // It was parsed before, so only memory runs out.
+        Err(_) => Err(AllocError),
+    }
+}
+
+/// The same of a document.
+fn help_in(
+    page: Page<'_, '_>,
+    alloc: Global,
+    place: SourceSpan,
+    known: KnownPackages<'_>,
+) -> Result<Option<String>, AllocError> {
+    let Page { document } = page;
+    match packages(alloc, document) {
+        Ok(mentioned) => unknown_help(alloc, known, &mentioned, place),
+        Err(refused) => Err(refused),
+    }
+}
+
+/// What is said of a package that no document declares.
 fn unknown_package(
     alloc: Global,
     text: &str,
@@ -85,7 +126,7 @@ fn unknown_package(
     let name = package_at(text, place);
     let message = format!(in alloc; "unknown package `{name}`")?;
     let mut diagnostic = Diagnostic::at("wac::unknown-package", message, place);
-    diagnostic.help = Some(known.versions_of(alloc, name)?);
+    diagnostic.help = help_at(alloc, text, place, known)?;
     Ok(diagnostic)
 }
 

@@ -7,6 +7,7 @@ use crate::known::push_definitions;
 use crate::mismatches::argument_help;
 use crate::spreads::spread_help;
 use crate::targets::{lacking_import_help, missing_export_help, target_help};
+use crate::unknown::unknown_help;
 use std::alloc::{AllocError, Global};
 use wac_resolution_errors::Error;
 
@@ -17,8 +18,8 @@ pub(crate) fn help_with(
     context: Context<'_>,
 ) -> Result<Option<String>, AllocError> {
     match error {
-        Error::UnknownPackage { name, .. } => {
-            Ok(Some(context.known.versions_of(alloc, name.as_str())?))
+        Error::UnknownPackage { span, .. } => {
+            unknown_help(alloc, context.known, context.mentioned, *span)
         }
         Error::PackageMissingExport {
             package,

@@ -1,5 +1,6 @@
 //! Packages that documents declare, with the names of these documents.
 
+use crate::unknown::Searched;
 use indexmap::IndexMap;
 use std::alloc::{AllocError, Global};
 use wac_declared_packages::Declared;
@@ -12,6 +13,8 @@ use wac_package_names::{push_key, push_near};
 pub struct KnownPackages<'k> {
     pub declared: &'k Declared,
     pub names: &'k [String],
+    /// Where they were looked for.
+    pub searched: Searched<'k>,
 }
 
 impl<'k> KnownPackages<'k> {
@@ -37,22 +40,8 @@ impl<'k> KnownPackages<'k> {
         self.declared.packages.get(key)
     }
 
-    /// Which versions of a package are declared, and by which documents.
-    pub fn versions_of(self, alloc: Global, name: &str) -> Result<String, AllocError> {
-        let mut help = String::new(alloc);
-        for (key, _) in self.declared.texts.iter() {
-            if key.name.as_str() == name {
-                self.push_version(&mut help, key)?;
-            }
-        }
-        if help.is_empty() {
-            help.push_str("no file of --packages has it")?;
-        }
-        Ok(help)
-    }
-
     /// Appends a package, with the document that declares it.
-    fn push_version(self, out: &mut String, key: &PackageKey) -> Result<(), AllocError> {
+    pub(crate) fn push_package(self, out: &mut String, key: &PackageKey) -> Result<(), AllocError> {
         out.push_str(if out.is_empty() { "`" } else { ", `" })?;
         push_key(out, key)?;
         out.push_str("` is declared by ")?;

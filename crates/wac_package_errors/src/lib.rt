@@ -3,7 +3,7 @@
 //!
 //! ```text
 //! let declared = declare_all(alloc, &texts, &worlds)?;
-//! let known = KnownPackages { declared: &declared, names: &paths };
+//! let known = KnownPackages { declared: &declared, names: &paths, searched: Searched::Folders };
 //! match first_error_with(alloc, text, known)? {
 //!     Composed::Resolved(graph) => ..,
 //!     Composed::Unresolved => ..,                     // it mentions a package that has an error
@@ -31,12 +31,14 @@ mod sources;
 mod spreads;
 mod targets;
 mod texts;
+mod unknown;
 mod wit;
 
 pub use declaring::declaration_diagnostic;
 pub use first::{Composed, first_error_with};
 pub use known::KnownPackages;
 pub use places::warnings_of;
+pub use unknown::Searched;
 pub use wit::syntax_diagnostic;
 // What a caller supplies, or asks first.
 pub use wac_composition::flat_text;

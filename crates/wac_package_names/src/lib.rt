@@ -11,5 +11,5 @@ mod versions;
 pub use finding::find_instantiations;
 pub use instantiations::{Access, Instantiation, Instantiations};
 pub use keys::{key_named, push_key};
-pub use nearest::{push_all, push_near};
+pub use nearest::{nearest_packages, push_all, push_near};
 pub use versions::{are_compatible_names, compatible_name, same_but_version};

@@ -4,7 +4,7 @@ use crate::devices::Pieces;
 use std::alloc::{AllocError, Global};
 use std::process::Abort;
 use std::test::Fail;
-use wac_lsp_messages::{ReceiveError, Receiver, send};
+use wac_lsp_messages::{ReceiveError, Received, Receiver, send};
 
 /// What is received until the end, a line for each body, and for the end.
 fn received(alloc: Global, mut input: Pieces<'_>) -> Result<String, AllocError> {
@@ -12,7 +12,8 @@ fn received(alloc: Global, mut input: Pieces<'_>) -> Result<String, AllocError> 
     let mut found = String::new(alloc);
     for _ in 0..9 {
         match receiver.receive(alloc, &mut input) {
-            Ok(Some(body)) => {
+            Ok(Some(Received::TooLong)) => found.push_str("too long\n")?,
+            Ok(Some(Received::Body(body))) => {
                 found.push_str(str::from_utf8(body.as_slice()).unwrap_or("?"))?;
                 found.push('\n')?;
             }
@@ -31,7 +32,7 @@ fn received(alloc: Global, mut input: Pieces<'_>) -> Result<String, AllocError> 
 }
 
 /// Bytes, and what is received of them.
-static ROWS: [(&str, &str); 19] = [
+static ROWS: [(&str, &str); 20] = [
     ("", "end"),
     ("Content-Length: 2\r\n\r\n{}", "{}\nend"),
     ("Content-Length: 0\r\n\r\n", "\nend"),
@@ -49,6 +50,7 @@ static ROWS: [(&str, &str); 19] = [
     ),
     ("content-length:3\r\n\r\n\r\n\r", "\r\n\r\nend"),
     ("CONTENT-LENGTH: 3 \r\n\r\n[1]", "[1]\nend"),
+    ("Content-Length:\t3 \t\r\n\r\n[1]", "[1]\nend"),
     (
         "Content-Length: 3\r\n\r\n{}",
         "the input ended within a message",
@@ -77,8 +79,8 @@ static ROWS: [(&str, &str); 19] = [
         "the Content-Length is no number",
     ),
     (
-        "Content-Length: 67108865\r\n\r\n",
-        "the Content-Length is more than 64 MB",
+        "Content-Length: 67108865\r\n\r\n{}",
+        "the input ended within a message",
     ),
     (
         "Content-Length: 99999999999999999999999\r\n\r\n",

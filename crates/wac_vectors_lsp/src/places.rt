@@ -20,7 +20,7 @@ static ROWS: [Row; 22] = [
     (MIXED, Utf16, 3, 0, 2),
     (MIXED, Utf16, 6, 0, 2),
     (MIXED, Utf16, 7, 0, 4),
-    (MIXED, Utf16, 8, 0, 5),
+    (MIXED, Utf16, 8, 0, 4),
     (MIXED, Utf16, 9, 1, 0),
     (MIXED, Utf16, 10, 1, 1),
     (MIXED, Utf16, 99, 1, 1),

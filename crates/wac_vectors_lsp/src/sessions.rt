@@ -7,9 +7,9 @@ use std::process::Abort;
 use std::test::Fail;
 use wac_files::MemoryFiles;
 use wac_lsp::Sent;
-use wac_lsp_sessions::{ServeError, Session, serve};
+use wac_lsp_sessions::{Reads, ServeError, Session, serve};
 use wac_lsp_texts::ChangeError;
-use wac_lsp_workspace::read_folders;
+use wac_lsp_workspace::{read_files, read_folders};
 
 /// The body of a message, and those that are sent after it, a line each.
 type Row = (&'static str, &'static str);
@@ -92,16 +92,16 @@ static ROWS: [Row; 13] = [
     ),
     (
         "{\"jsonrpc\":\"2.0\",\"method\":\"workspace/didChangeWatchedFiles\",\"params\":{\"changes\":[]}}",
-        "{\"jsonrpc\":\"2.0\",\"method\":\"textDocument/publishDiagnostics\",\"params\":{\"diagnostics\":[],\"uri\":\"file:///my%20project/app.wac\",\"version\":2}}\n",
+        "",
     ),
     // A package that there isn't: the edit that mends it, of a range that touches the name, and of one that doesn't.
     (
         "{\"jsonrpc\":\"2.0\",\"method\":\"textDocument/didChange\",\"params\":{\"contentChanges\":[{\"text\":\"package a:app;\\nlet x = new a:d { };\\n\"}],\"textDocument\":{\"uri\":\"file:///my%20project/app.wac\",\"version\":3}}}",
-        "{\"jsonrpc\":\"2.0\",\"method\":\"textDocument/publishDiagnostics\",\"params\":{\"diagnostics\":[{\"code\":\"wac::unknown-package\",\"message\":\"unknown package `a:d`\\nno file of the folders has it\",\"range\":{\"end\":{\"character\":15,\"line\":1},\"start\":{\"character\":12,\"line\":1}},\"relatedInformation\":[],\"severity\":1,\"source\":\"wac\"}],\"uri\":\"file:///my%20project/app.wac\",\"version\":3}}\n",
+        "{\"jsonrpc\":\"2.0\",\"method\":\"textDocument/publishDiagnostics\",\"params\":{\"diagnostics\":[{\"code\":\"wac::unknown-package\",\"message\":\"unknown package `a:d`\\n`a:b` is declared by b.wac, `a:c` is declared by c.wac\",\"range\":{\"end\":{\"character\":15,\"line\":1},\"start\":{\"character\":12,\"line\":1}},\"relatedInformation\":[],\"severity\":1,\"source\":\"wac\"}],\"uri\":\"file:///my%20project/app.wac\",\"version\":3}}\n",
     ),
     (
         "{\"id\":9,\"jsonrpc\":\"2.0\",\"method\":\"textDocument/codeAction\",\"params\":{\"context\":{\"diagnostics\":[]},\"range\":{\"end\":{\"character\":13,\"line\":1},\"start\":{\"character\":13,\"line\":1}},\"textDocument\":{\"uri\":\"file:///my%20project/app.wac\"}}}",
-        "{\"id\":9,\"jsonrpc\":\"2.0\",\"result\":[{\"diagnostics\":[{\"code\":\"wac::unknown-package\",\"message\":\"unknown package `a:d`\\nno file of the folders has it\",\"range\":{\"end\":{\"character\":15,\"line\":1},\"start\":{\"character\":12,\"line\":1}},\"relatedInformation\":[],\"severity\":1,\"source\":\"wac\"}],\"edit\":{\"changes\":{\"file:///my%20project/app.wac\":[{\"newText\":\"a:b\",\"range\":{\"end\":{\"character\":15,\"line\":1},\"start\":{\"character\":12,\"line\":1}}}]}},\"kind\":\"quickfix\",\"title\":\"write `a:b`\"}]}\n",
+        "{\"id\":9,\"jsonrpc\":\"2.0\",\"result\":[{\"diagnostics\":[{\"code\":\"wac::unknown-package\",\"message\":\"unknown package `a:d`\\n`a:b` is declared by b.wac, `a:c` is declared by c.wac\",\"range\":{\"end\":{\"character\":15,\"line\":1},\"start\":{\"character\":12,\"line\":1}},\"relatedInformation\":[],\"severity\":1,\"source\":\"wac\"}],\"edit\":{\"changes\":{\"file:///my%20project/app.wac\":[{\"newText\":\"a:b\",\"range\":{\"end\":{\"character\":15,\"line\":1},\"start\":{\"character\":12,\"line\":1}}}]}},\"kind\":\"quickfix\",\"title\":\"write `a:b`\"}]}\n",
     ),
 ];
 
@@ -207,7 +207,7 @@ static OF_PACKAGES: [Row; 11] = [
     // A folder of what was built isn't entered.
     (
         "{\"jsonrpc\":\"2.0\",\"method\":\"textDocument/didChange\",\"params\":{\"contentChanges\":[{\"text\":\"package a:app;\\nlet x = new t:x { };\\n\"}],\"textDocument\":{\"uri\":\"file:///p/app.wac\",\"version\":2}}}",
-        "{\"jsonrpc\":\"2.0\",\"method\":\"textDocument/publishDiagnostics\",\"params\":{\"diagnostics\":[{\"code\":\"wac::unknown-package\",\"message\":\"unknown package `t:x`\\nno file of the folders has it\",\"range\":{\"end\":{\"character\":15,\"line\":1},\"start\":{\"character\":12,\"line\":1}},\"severity\":1,\"source\":\"wac\"}],\"uri\":\"file:///p/app.wac\",\"version\":2}}\n",
+        "{\"jsonrpc\":\"2.0\",\"method\":\"textDocument/publishDiagnostics\",\"params\":{\"diagnostics\":[{\"code\":\"wac::unknown-package\",\"message\":\"unknown package `t:x`\\n`t:w` is declared by two.wac\",\"range\":{\"end\":{\"character\":15,\"line\":1},\"start\":{\"character\":12,\"line\":1}},\"severity\":1,\"source\":\"wac\"}],\"uri\":\"file:///p/app.wac\",\"version\":2}}\n",
     ),
     // A component in `deps`.
     (
@@ -258,7 +258,7 @@ static ALONE: [Row; 2] = [
     ),
     (
         "{\"jsonrpc\":\"2.0\",\"method\":\"textDocument/didOpen\",\"params\":{\"textDocument\":{\"languageId\":\"wac\",\"text\":\"package a:app;\\nlet x = new a:b { };\\n\",\"uri\":\"file:///e/app.wac\",\"version\":1}}}",
-        "{\"jsonrpc\":\"2.0\",\"method\":\"textDocument/publishDiagnostics\",\"params\":{\"diagnostics\":[],\"uri\":\"file:///e/app.wac\",\"version\":1}}\n",
+        "{\"jsonrpc\":\"2.0\",\"method\":\"textDocument/publishDiagnostics\",\"params\":{\"diagnostics\":[{\"code\":\"wac::unknown-package\",\"message\":\"unknown package `a:b`\\nput its component at `deps/a/b.wasm`, or a document that declares it into `deps`\",\"range\":{\"end\":{\"character\":15,\"line\":1},\"start\":{\"character\":12,\"line\":1}},\"severity\":1,\"source\":\"wac\"}],\"uri\":\"file:///e/app.wac\",\"version\":1}}\n",
     ),
 ];
 
@@ -324,17 +324,17 @@ fn push_sent(lines: &mut String, messages: &[Sent]) -> Result<(), AllocError> {
     Ok(())
 }
 
-/// Adds what a session sends after a message. Returns whether folders are to be read then.
+/// Adds what a session sends after a message. Returns what is to be read then.
 fn push_answer(
     lines: &mut String,
     alloc: Global,
     session: &mut Session,
     body: &str,
-) -> Result<bool, ChangeError> {
+) -> Result<Reads, ChangeError> {
     match session.step(alloc, body.as_bytes()) {
         Ok(stepped) => {
             push_sent(lines, stepped.outcome.messages.as_slice())?;
-            Ok(stepped.reads_folders)
+            Ok(stepped.reads)
         }
         Err(error) => Err(error),
     }
@@ -347,14 +347,31 @@ fn push_read(
     session: &mut Session,
     files: &mut MemoryFiles,
 ) -> Result<(), AllocError> {
-    let contents = read_folders(alloc, files, session.folders())?;
+    let contents = read_folders(alloc, files, session.workspace())?;
     match session.take(alloc, contents) {
         Ok(messages) => push_sent(lines, messages.as_slice()),
         Err(error) => Err(error),
     }
 }
 
-/// What is sent after a message, a line each. Folders are read where the session says so.
+/// Reads files of the folders, or the folders where that doesn't do, and adds what the session sends then.
+fn push_read_files(
+    lines: &mut String,
+    alloc: Global,
+    session: &mut Session,
+    files: &mut MemoryFiles,
+    paths: &[String],
+) -> Result<(), AllocError> {
+    match read_files(alloc, files, session.workspace(), paths)? {
+        Some(contents) => match session.take_files(alloc, contents) {
+            Ok(messages) => push_sent(lines, messages.as_slice()),
+            Err(error) => Err(error),
+        },
+        None => push_read(lines, alloc, session, files),
+    }
+}
+
+/// What is sent after a message, a line each. What the session says is read.
 fn sent_after(
     alloc: Global,
     session: &mut Session,
@@ -362,8 +379,12 @@ fn sent_after(
     body: &str,
 ) -> Result<String, ChangeError> {
     let mut lines = String::new(alloc);
-    if push_answer(&mut lines, alloc, session, body)? {
-        push_read(&mut lines, alloc, session, files)?;
+    match push_answer(&mut lines, alloc, session, body)? {
+        Reads::Nothing => {}
+        Reads::Folders => push_read(&mut lines, alloc, session, files)?,
+        Reads::Files(paths) => {
+            push_read_files(&mut lines, alloc, session, files, paths.as_slice())?;
+        }
     }
     Ok(lines)
 }
@@ -435,7 +456,7 @@ fn a_stream_of_messages_is_served(rt: HostRuntime) -> Result<(), Fail> {
     let mut output = Narrow::new(alloc, usize::MAX);
     let found = ending(alloc, Pieces::new(stream.as_bytes(), 1), &mut output)?;
     // The folder was looked at.
-    let wanted = "no file of the folders has it";
+    let wanted = "`a:b` is declared by b.wac";
     let written = str::from_utf8(output.bytes()).unwrap_or("");
     assert!(rt;
         found.as_str() == "status 0" && written.contains(wanted),

@@ -15,12 +15,21 @@ static PATHS: [(&str, &str); 6] = [
 ];
 
 /// URIs that name paths, though no path has them, and URIs that name none.
-static URIS: [(&str, &str); 10] = [
+static URIS: [(&str, &str); 19] = [
     ("file:///c%3a/x", "/c:/x"),
     ("file:///c:/x", "/c:/x"),
     ("file://localhost/x", "/x"),
     ("file:///a%2", "/a%2"),
     ("file:///", "/"),
+    ("FILE:///a", "/a"),
+    ("File://LocalHost/a", "/a"),
+    ("file:///./a/./b", "/a/b"),
+    ("file:///a//b/", "/a/b"),
+    ("file:///a/b/../c", "/a/c"),
+    ("file:///a/%2e%2E/c", "/c"),
+    ("file:///../a", "/a"),
+    ("file:///a/.b/..c/d..", "/a/.b/..c/d.."),
+    ("files:///a", "none"),
     ("file:///%ff", "none"),
     ("file://host/x", "none"),
     ("file:x", "none"),
@@ -60,7 +69,7 @@ fn uris_of_files_name_paths(rt: HostRuntime) -> Result<(), Fail> {
 }
 
 /// The parameters of `initialize`, and the folders of it, each after a blank.
-static MESSAGES: [(&str, &str); 10] = [
+static MESSAGES: [(&str, &str); 12] = [
     (
         "{\"workspaceFolders\":[{\"uri\":\"file:///a%20b\",\"name\":\"x\"},{\"uri\":\"file:///c/\"}],\"rootUri\":\"file:///d\"}",
         " /a b /c",
@@ -76,6 +85,8 @@ static MESSAGES: [(&str, &str); 10] = [
         "",
     ),
     ("{\"rootUri\":\"file:///\"}", ""),
+    ("{\"rootUri\":\"FILE:///a/./b/\"}", " /a/b"),
+    ("{\"rootPath\":\"/a/../\"}", ""),
     ("{\"rootPath\":\"e\"}", ""),
     ("{\"rootPath\":3}", ""),
     ("{}", ""),

@@ -5,6 +5,7 @@ use wac_cli::{FormatOptions, LineEnds};
 use wac_cli_console::{Action, Report};
 use wac_cli_packages::{Form, PackageForm, is_package_key};
 use wac_comments::Indent;
+use wac_files::MOST_BYTES;
 
 /// The version of the program.
 const VERSION: &str = "0.11.0";
@@ -63,6 +64,9 @@ pub(crate) enum Work {
 /// What is wrong with a component that isn't named as one.
 const NO_COMPONENT: &str = "--package takes a package and a file, as in a:b@1.0.0=b.wasm";
 
+/// What is wrong with a size that is none.
+const NO_SIZE: &str = "--max-size takes a number of bytes, or one with K, M or G after it, as in 64M";
+
 /// What the program has to do.
 #[derive(Drop)]
 pub(crate) struct Task<'a> {
@@ -73,10 +77,14 @@ pub(crate) struct Task<'a> {
     pub(crate) paths: Vec<&'a str>,
     /// Where packages are.
     pub(crate) packages: Vec<&'a str>,
+    /// Whether packages are looked for in the folders `deps` and `packages` too.
+    pub(crate) with_defaults: bool,
     /// Names of packages, each with the path of its component.
     pub(crate) components: Vec<(&'a str, &'a str)>,
-    /// Whether a package may be declared and have a component, if the two agree.
+    /// Whether a package may have several files, if they agree.
     pub(crate) may_agree: bool,
+    /// Whether documents are parsed, and resolved without packages where they mention none.
+    pub(crate) is_syntax: bool,
     /// Names of packages, each with the world that is chosen.
     pub(crate) worlds: Vec<(&'a str, &'a str)>,
     /// The name of standard input in messages.
@@ -85,12 +93,23 @@ pub(crate) struct Task<'a> {
     pub(crate) key: Option<&'a str>,
     /// The name of a document's world.
     pub(crate) world: Option<&'a str>,
+    /// The most bytes that a file may have.
+    pub(crate) most: u64,
 }
 
 impl Task<'_> {
-    /// Whether packages are given, as documents or components.
-    pub(crate) fn has_packages(&self) -> bool {
-        !self.packages.is_empty() || !self.components.is_empty()
+    /// Whether something is said of packages.
+    fn says_packages(&self) -> bool {
+        !self.packages.is_empty()
+            || !self.components.is_empty()
+            || !self.worlds.is_empty()
+            || !self.with_defaults
+            || self.may_agree
+    }
+
+    /// Whether it is done with standard input.
+    pub(crate) fn is_of_input(&self) -> bool {
+        self.paths.first().copied() == Some("-")
     }
 }
 
@@ -98,8 +117,8 @@ impl Task<'_> {
 #[derive(Drop)]
 pub(crate) enum Request<'a> {
     Run(Task<'a>),
-    /// To serve an editor.
-    Serve,
+    /// To serve an editor, with the most bytes that a file may have.
+    Serve(u64),
     /// Nothing that can be done, for a reason.
     Misused(&'static str),
 }
@@ -114,7 +133,10 @@ pub(crate) fn read_words<'a>(
     match matches.subcommand() {
         Some(("fmt", found)) => Ok(request_of(alloc, Work::Format(format_options(found)), found)?),
         Some(("packages", found)) => Ok(request_of(alloc, Work::Packages, found)?),
-        Some(("lsp", _)) => Ok(Request::Serve),
+        Some(("lsp", found)) => Ok(match size_of(found) {
+            Some(most) => Request::Serve(most),
+            None => Request::Misused(NO_SIZE),
+        }),
         Some(("graph", found)) => Ok(request_of(alloc, Work::Graph(form_of(found)), found)?),
         Some(("package", found)) => Ok(request_of(
             alloc,
@@ -138,21 +160,35 @@ fn request_of<'a>(
     let Some(worlds) = pairs_of(alloc, found, "world")? else {
         return Ok(Request::Misused("--world takes a package and a world, as in a:b@1.0.0=w"));
     };
-    let Some(components) = pairs_of(alloc, found, "package")? else {
+    let (Some(mut components), Some(mut more)) = (
+        pairs_of(alloc, found, "package")?,
+        pairs_of(alloc, found, "dep")?,
+    ) else {
         return Ok(Request::Misused(NO_COMPONENT));
     };
+    components.append(&mut more)?;
+    let Some(most) = size_of(found) else {
+        return Ok(Request::Misused(NO_SIZE));
+    };
+    let mut packages = all_of(alloc, found, "packages")?;
+    let mut alone = all_of(alloc, found, "deps-dir")?;
+    let with_defaults = !found.get_flag("no-packages") && alone.is_empty();
+    packages.append(&mut alone)?;
     let task = Task {
         work,
         color: color_of(found),
         quiet: found.get_flag("quiet"),
-        paths: paths_of(alloc, found)?,
-        packages: all_of(alloc, found, "packages")?,
+        paths: paths_of(alloc, found, work)?,
+        packages,
+        with_defaults,
         components,
         may_agree: found.get_flag("agree"),
+        is_syntax: found.get_flag("syntax"),
         worlds,
         input_name: found.get_str("stdin-filepath"),
         key: found.get_str("name"),
         world: found.get_str("WORLD-NAME"),
+        most,
     };
     match misuse(&task) {
         Some(reason) => Ok(Request::Misused(reason)),
@@ -167,12 +203,12 @@ fn misuse(task: &Task<'_>) -> Option<&'static str> {
         Some("`-` can't be used with other paths")
     } else if is_input && reads_files_alone(task.work) {
         Some("this command reads a file, and not standard input")
-    } else if is_input && task.has_packages() {
-        Some("`-` can't be used with --packages and --package")
-    } else if !task.has_packages() && !task.worlds.is_empty() {
-        Some("--world is used with --packages alone")
-    } else if !task.has_packages() && task.may_agree {
-        Some("--agree is used with --packages alone")
+    } else if task.is_syntax && task.says_packages() {
+        Some("--syntax can't be used with what says where packages are")
+    } else if has_twice(task.components.as_slice()) {
+        Some("--package names a package twice")
+    } else if has_twice(task.worlds.as_slice()) {
+        Some("--world names a package twice")
     } else if !task
         .components
         .as_slice()
@@ -187,6 +223,34 @@ fn misuse(task: &Task<'_>) -> Option<&'static str> {
     } else {
         None
     }
+}
+
+/// Whether two of these have one name.
+fn has_twice(pairs: &[(&str, &str)]) -> bool {
+    for place in 0..pairs.len() {
+        let (name, _) = pairs[place];
+        if pairs.iter().skip(place + 1).any(|(other, _)| *other == name) {
+            return true;
+        }
+    }
+    false
+}
+
+/// The most bytes that a file may have, if the words say a size.
+fn size_of(found: &ArgMatches<'_>) -> Option<u64> {
+    let Some(text) = found.get_str("max-size") else {
+        return Some(MOST_BYTES);
+    };
+    let (number, unit) = match text.chars().next_back() {
+        Some('K') => (text.strip_suffix('K')?, 1 << 10),
+        Some('M') => (text.strip_suffix('M')?, 1 << 20),
+        Some('G') => (text.strip_suffix('G')?, 1 << 30),
+        _ => (text, 1),
+    };
+    if !number.chars().all(|c| c.is_ascii_digit()) {
+        return None;
+    }
+    number.parse::<u64>().ok()?.checked_mul(unit)
 }
 
 /// Whether a key, if it is given, is one.
@@ -205,9 +269,20 @@ fn reads_files_alone(work: Work) -> bool {
     }
 }
 
-/// The paths, and that of the document with a world after them.
-fn paths_of<'a>(alloc: Global, found: &ArgMatches<'a>) -> Result<Vec<&'a str>, AllocError> {
+/// The paths, and that of the document with a world after them. Where standard input may be read, it is `-` alone.
+fn paths_of<'a>(
+    alloc: Global,
+    found: &ArgMatches<'a>,
+    work: Work,
+) -> Result<Vec<&'a str>, AllocError> {
     let mut all = all_of(alloc, found, "PATH")?;
+    if !reads_files_alone(work) {
+        for path in all.as_mut_slice() {
+            if *path == "/dev/stdin" {
+                *path = "-";
+            }
+        }
+    }
     if let Some(path) = found.get_str("WORLD") {
         all.push(path)?;
     }
@@ -359,8 +434,9 @@ fn check_definition<'a>(alloc: Global, values: &'a Values<'a>) -> Result<Command
     let command = Command::new(alloc, "check")
         .about("Reports the errors of each file")
         .after_help(
-            "Files are parsed, and resolved where they mention no foreign package, or where --packages says\n\
-            which documents declare packages. With --packages only the first error of a file is reported.\n\
+            "Files are parsed, and resolved with the packages that they mention. These are found in the folders deps\n\
+            and packages beside a file, or above it up to the folder that holds .git, and where --packages says.\n\
+            Of a file all errors of parsing are reported, or the first one of resolving.\n\
             Status: 0 all is well, 1 a file has an error, 2 wrong use, 3 a file could not be read,\n\
             4 out of memory.",
         )
@@ -372,7 +448,12 @@ fn check_definition<'a>(alloc: Global, values: &'a Values<'a>) -> Result<Command
             choice(alloc, "output", values.reports.as_slice(), "human")
                 .value_name("FORM")
                 .help("The form of errors"),
-        )?;
+        )?
+        .arg(flag(
+            alloc,
+            "syntax",
+            "Parses files, and resolves those alone that mention no package",
+        ))?;
     of_many(alloc, values, with_packages(alloc, command)?)
 }
 
@@ -383,7 +464,7 @@ fn packages_definition<'a>(
     let command = Command::new(alloc, "packages")
         .about("Lists the packages that a file mentions, and which file declares each")
         .after_help(
-            "A line KEY found FILE or KEY missing for each package.\n\
+            "A line KEY found FILE or KEY missing for each package, which are found as wacx check finds them.\n\
             Status: 0 all are found, 1 one is missing or a file has an error, 2 wrong use, 3 a file could\n\
             not be read, 4 out of memory.",
         )
@@ -436,11 +517,30 @@ fn with_supply<'a>(alloc: Global, command: Command<'a>) -> Result<Command<'a>, A
                 .help("Names the package of a component, as a:b@1.0.0=b.wasm; may be repeated"),
         )?
         .arg(
-            Arg::new(alloc, "agree")
-                .long("agree")
-                .action(ArgAction::SetTrue)
-                .help("Compares packages that are declared and have a component"),
-        )
+            Arg::new(alloc, "dep")
+                .short('d')
+                .long("dep")
+                .value_name("KEY=FILE")
+                .action(ArgAction::Append)
+                .help("The same as --package"),
+        )?
+        .arg(flag(
+            alloc,
+            "no-packages",
+            "Looks for packages where --packages and --package say, and nowhere else",
+        ))?
+        .arg(
+            Arg::new(alloc, "deps-dir")
+                .long("deps-dir")
+                .value_name("PATH")
+                .action(ArgAction::Append)
+                .help("The same as --no-packages --packages PATH"),
+        )?
+        .arg(flag(
+            alloc,
+            "agree",
+            "Compares the files of a package that has several",
+        ))
 }
 
 fn package_definition<'a>(
@@ -509,7 +609,17 @@ fn lsp_definition<'a>(alloc: Global) -> Result<Command<'a>, AllocError> {
         .after_help(
             "Status: 0 the editor ended it, 1 it ended otherwise, 3 input or output failed, 4 out of memory.",
         )
-        .arg(flag(alloc, "stdio", "Changes nothing; some editors add it"))
+        .arg(flag(alloc, "stdio", "Changes nothing; some editors add it"))?
+        .arg(max_size(alloc))
+}
+
+/// The most bytes that a file may have.
+fn max_size<'a>(alloc: Global) -> Arg<'a> {
+    Arg::new(alloc, "max-size")
+        .long("max-size")
+        .value_name("SIZE")
+        .action(ArgAction::Set)
+        .help("The most bytes that a file may have, as 100000, 500K, 64M or 1G; 64M where nothing is said")
 }
 
 fn one_path<'a>(alloc: Global, name: &'a str, shown: &'a str, help: &'a str) -> Arg<'a> {
@@ -526,11 +636,13 @@ fn common<'a>(
     values: &'a Values<'a>,
     command: Command<'a>,
 ) -> Result<Command<'a>, AllocError> {
-    command.arg(
-        choice(alloc, "color", values.colors.as_slice(), "auto")
-            .value_name("WHEN")
-            .help("Colours errors"),
-    )
+    command
+        .arg(
+            choice(alloc, "color", values.colors.as_slice(), "auto")
+                .value_name("WHEN")
+                .help("Colours errors"),
+        )?
+        .arg(max_size(alloc))
 }
 
 /// Adds what the commands take that do many files, or standard input.

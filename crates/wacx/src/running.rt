@@ -6,16 +6,17 @@ use std::io::{IsTerminal, Stderr, Stdout};
 use std::process::ExitCode;
 use std::{env, process};
 use wac_cli::{check_input, check_paths, format_input, format_paths};
-use wac_cli_console::{Console, InputOptions, Report, Status};
+use wac_cli_console::{Console, InputOptions, Report, Status, read_all};
 use wac_cli_packages::{
-    Given, GraphRequest, PackageForm, PackageRequest, TargetRequest, check_target,
-    check_with_packages, list_packages, show_graph, show_graph_with_packages, show_package,
+    Given, GraphRequest, InputText, PackageForm, PackageRequest, TargetRequest,
+    check_input_with_packages, check_target, check_with_packages, list_packages, show_graph,
+    show_package,
 };
-use wac_files::{Disk, MOST_BYTES};
+use wac_files::Disk;
 
 /// Does a task with the files and streams of the process.
 pub(crate) fn perform(rt: &HostRuntime, task: &Task<'_>, words: &Words) -> ExitCode {
-    let status = if task.paths.first().copied() == Some("-") {
+    let status = if task.is_of_input() {
         perform_on_input(rt, task)
     } else {
         perform_on_files(rt, task)
@@ -37,29 +38,45 @@ fn perform_on_input(rt: &HostRuntime, task: &Task<'_>) -> Status {
     let mut input = rt.stdin();
     let reading = InputOptions {
         name: task.input_name,
-        most: MOST_BYTES,
+        most: task.most,
     };
     match task.work {
         Work::Format(options) => {
             format_input(rt.alloc(), &mut input, &mut console, options, reading)
         }
-        Work::Check(report) => check_input(rt.alloc(), &mut input, &mut console, report, reading),
+        Work::Check(report) if task.is_syntax => {
+            check_input(rt.alloc(), &mut input, &mut console, report, reading)
+        }
+        Work::Check(report) => {
+            let text = InputText {
+                name: task.input_name,
+                read: read_all(rt.alloc(), &mut input, task.most),
+            };
+            let mut files = files_of(rt, task);
+            let given = given_of(task, report);
+            check_input_with_packages(rt.alloc(), &mut files, &mut console, given, text)
+        }
         // The words of the command line allow no standard input here.
         Work::Packages | Work::Graph(_) | Work::Package(_) | Work::Targets(_) => Status::Wrong,
     }
 }
 
+/// The files of the system, for a task.
+fn files_of(rt: &HostRuntime, task: &Task<'_>) -> Disk<HostRuntime> {
+    Disk::new(*rt, process::id(rt.process()), task.most)
+}
+
 /// Does a task with files.
 fn perform_on_files(rt: &HostRuntime, task: &Task<'_>) -> Status {
     let mut console = console_of(rt, task);
-    let mut files = Disk::new(*rt, process::id(rt.process()), MOST_BYTES);
+    let mut files = files_of(rt, task);
     let paths = task.paths.as_slice();
     let first = path_at(paths, 0);
     match task.work {
         Work::Format(options) => {
             format_paths(rt.alloc(), &mut files, &mut console, options, paths)
         }
-        Work::Check(report) if !task.has_packages() => {
+        Work::Check(report) if task.is_syntax => {
             check_paths(rt.alloc(), &mut files, &mut console, report, paths)
         }
         Work::Check(report) => {
@@ -70,13 +87,10 @@ fn perform_on_files(rt: &HostRuntime, task: &Task<'_>) -> Status {
             let given = given_of(task, Report::Human);
             list_packages(rt.alloc(), &mut files, &mut console, given, first)
         }
-        Work::Graph(form) if !task.has_packages() => {
-            show_graph(rt.alloc(), &mut files, &mut console, form, first)
-        }
         Work::Graph(form) => {
             let given = given_of(task, Report::Human);
             let request = GraphRequest { path: first, form };
-            show_graph_with_packages(rt.alloc(), &mut files, &mut console, given, request)
+            show_graph(rt.alloc(), &mut files, &mut console, given, request)
         }
         Work::Package(form) => {
             let request = package_request(task, form);
@@ -94,6 +108,7 @@ fn perform_on_files(rt: &HostRuntime, task: &Task<'_>) -> Status {
 fn given_of<'t>(task: &'t Task<'_>, report: Report) -> Given<'t> {
     Given {
         packages: task.packages.as_slice(),
+        with_defaults: task.with_defaults,
         components: task.components.as_slice(),
         may_agree: task.may_agree,
         worlds: task.worlds.as_slice(),

@@ -2,14 +2,14 @@
 use crate::command::version;
 use std::process;
 use std::process::ExitCode;
-use wac_files::{Disk, MOST_BYTES};
+use wac_files::Disk;
 use wac_lsp_sessions::{ServeError, serve};
 
-/// Answers the messages on standard input until the editor ends it.
-pub(crate) fn serve_editor(rt: &HostRuntime) -> ExitCode {
+/// Answers the messages on standard input until the editor ends it. No file of more bytes than `most` is read.
+pub(crate) fn serve_editor(rt: &HostRuntime, most: u64) -> ExitCode {
     let mut input = rt.stdin();
     let mut output = rt.stdout();
-    let mut files = Disk::new(*rt, process::id(rt.process()), MOST_BYTES);
+    let mut files = Disk::new(*rt, process::id(rt.process()), most);
     match serve(rt.alloc(), &mut input, &mut output, &mut files, version()) {
         Ok(status) => ExitCode::from(status),
         Err(error) => {

@@ -1,0 +1,5 @@
+use Rattle.std.proofs.Common.{◌≡◌}
+use Rattle.wac_component_packages.proofs.folders.nearest_folders.Given as goal
+
+abbrev pub invariant-loop : goal.invariant-loop
+invariant-loop g l = g.F.FileSystem.replaced l.files ≡ g.F.FileSystem.replaced l.fn.files

@@ -1,0 +1,5 @@
+use Rattle.std.proofs.Common.{◌≡◌}
+use Rattle.wac_lsp_workspace.proofs.contents.FolderContents.documents_outside.Given as goal
+
+abbrev pub invariant-loop-folder : goal.invariant-loop-folder
+invariant-loop-folder g l = g.F.FileSystem.replaced l.files ≡ g.F.FileSystem.replaced l.fn.files

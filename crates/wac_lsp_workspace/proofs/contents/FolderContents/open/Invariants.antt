@@ -1,0 +1,5 @@
+use Rattle.std.proofs.Common.{◌≡◌}
+use Rattle.wac_lsp_workspace.proofs.contents.FolderContents.open.Given as goal
+
+abbrev pub invariant-loop-source : goal.invariant-loop-source
+invariant-loop-source g l = g.F.FileSystem.replaced l.files ≡ g.F.FileSystem.replaced l.fn.files
