@@ -190,7 +190,12 @@ fn check_bytes<O: Write + Drop, E: Write + Drop>(
     match judge(console, supply, context, tally, file) {
         Ok(outcome) => outcome,
         Err(AllocError) => {
-            console.failed(context.alloc, context.report, file.path, FileError::OutOfMemory)
+            console.failed(
+                context.alloc,
+                context.report,
+                file.path,
+                FileError::OutOfMemory,
+            )
         }
     }
 }
@@ -219,7 +224,12 @@ fn reject_all<O: Write + Drop, E: Write + Drop>(
     diagnostic: &Diagnostic,
 ) -> Result<Outcome, AllocError> {
     let found = all_errors(context.alloc, file.text, true, MOST)?;
-    let outcome = reject(console, context, file, with_hint(diagnostic, found.as_slice()))?;
+    let outcome = reject(
+        console,
+        context,
+        file,
+        with_hint(diagnostic, found.as_slice()),
+    )?;
     for finding in found.as_slice().iter().skip(1) {
         console.report(context.alloc, context.report, file, &finding.diagnostic)?;
     }
@@ -268,7 +278,13 @@ pub fn check_input_with_packages<F: FileSystem, O: Write + Drop, E: Write + Drop
 {
     let name = input.name.unwrap_or(STDIN);
     let checked = match supply_for(alloc, files, given, name) {
-        Ok(supply) => check_input(console, &supply, supply.context(alloc, given.report), name, input),
+        Ok(supply) => check_input(
+            console,
+            &supply,
+            supply.context(alloc, given.report),
+            name,
+            input,
+        ),
         Err(_) => Err(AllocError),
     };
     match checked {
@@ -301,9 +317,8 @@ fn finish_all<O: Write + Drop, E: Write + Drop>(
     console: &mut Console<O, E>,
     outcomes: &[Outcome],
 ) -> Status {
-    let is_well = outcomes
-        .iter()
-        .all(|outcome| outcome.status(Task::Check.action()) == Status::Well);
+    let is_well = outcomes.iter().all(|outcome| outcome.status(Task::Check.action())
+        == Status::Well);
     if is_well && console.output_status() == Status::Well {
         return Status::Well;
     }

@@ -98,8 +98,10 @@ fn push_fault(
     numbered: (usize, &DeclarationFault),
 ) -> Result<(), AllocError> {
     let (number, fault) = numbered;
-    let (Some(path), Some(origin)) = (sources.names.get(fault.text), sources.origins.get(fault.text))
-    else {
+    let (Some(path), Some(origin)) = (
+        sources.names.get(fault.text),
+        sources.origins.get(fault.text),
+    ) else {
         return Ok(());
     };
     let (key, cause) = match &fault.error {
@@ -107,7 +109,10 @@ fn push_fault(
             Some(key_at(alloc, sources, fault.text, *place)?),
             Cause::DeclaredTwice(number),
         ),
-        _ => (key_of(alloc, declared, fault.text)?, Cause::Declared(number)),
+        _ => (
+            key_of(alloc, declared, fault.text)?,
+            Cause::Declared(number),
+        ),
     };
     all.push(PackageFault {
         path: String::from_str(alloc, path.as_str())?,

@@ -73,7 +73,11 @@ fn list_supplied<O: Write + Drop, E: Write + Drop>(
     let status = match read {
         Ok(bytes) => {
             supply.tell_mentioned(console, context, &mut tally, bytes.as_slice())?;
-            list_bytes(console, context, path, bytes.as_slice())?
+            let status = list_bytes(console, context, path, bytes.as_slice())?;
+            if status != Status::Well {
+                supply.tell_unread(console, context, &mut tally)?;
+            }
+            status
         }
         Err(error) => {
             let outcome = console.failed(context.alloc, context.report, path, error);

@@ -139,7 +139,9 @@ impl Sources {
         cause: Cause,
     ) -> Result<(), AllocError> {
         let Origin {
-            place, is_named, ..
+            place,
+            is_named,
+            ..
         } = origin;
         self.faults.push(PackageFault {
             path: String::from_str(alloc, path)?,

@@ -108,6 +108,21 @@ impl Supply {
         self.tell_each(console, context, tally, &reached)
     }
 
+    /// Tells which files that were found couldn't be read, so that nobody knows their packages.
+    pub(crate) fn tell_unread<O: Write + Drop, E: Write + Drop>(
+        &self,
+        console: &mut Console<O, E>,
+        context: Context<'_>,
+        tally: &mut Tally,
+    ) -> Result<(), AllocError> {
+        for fault in self.sources.faults.as_slice() {
+            if fault.key.is_none() && matches!(fault.cause, Cause::Unread(_)) {
+                self.tell(console, context, tally, fault)?;
+            }
+        }
+        Ok(())
+    }
+
     /// The packages that a text mentions, directly or through declared packages, without those that earlier ones did.
     fn reached(
         &self,
@@ -234,7 +249,12 @@ impl Supply {
                 reject(console, context, &file, diagnostic)
             }
             Cause::Conflict(diagnostic) => {
-                reject(console, context, &SourceFile { path, text: b"" }, diagnostic)
+                reject(
+                    console,
+                    context,
+                    &SourceFile { path, text: b"" },
+                    diagnostic,
+                )
             }
             Cause::Declared(number) | Cause::DeclaredTwice(number) => {
                 self.told_declaration(console, context, path, *number)

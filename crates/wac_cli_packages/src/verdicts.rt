@@ -8,8 +8,11 @@ use wac_cli_console::Console;
 use wac_first_error::Reading;
 use wac_package_errors::{Composed, first_error_with, flat_text};
 
+/// The code of a mentioned package that is nowhere.
+const UNKNOWN_PACKAGE: &str = "wac::unknown-package";
+
 /// The first error of bytes, which are resolved with known packages. What is wrong with the files of packages that they
-/// mention is told before.
+/// mention is told before, and where one is nowhere, what couldn't be read.
 pub(crate) fn first_error_of<O: Write + Drop, E: Write + Drop>(
     console: &mut Console<O, E>,
     supply: &Supply,
@@ -24,6 +27,10 @@ pub(crate) fn first_error_of<O: Write + Drop, E: Write + Drop>(
         Ok(Composed::Unresolved) => {
             supply.tell_mentioned(console, context, tally, bytes)?;
             Ok(Composed::Unresolved)
+        }
+        Ok(Composed::Rejected(diagnostic)) if diagnostic.code == UNKNOWN_PACKAGE => {
+            supply.tell_unread(console, context, tally)?;
+            Ok(Composed::Rejected(diagnostic))
         }
         found => found,
     }

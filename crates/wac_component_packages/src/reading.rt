@@ -32,6 +32,8 @@ pub struct Components {
     pub all: Vec<ComponentSource>,
     /// Their packages.
     pub packages: IndexMap<PackageKey, Package>,
+    /// The components of packages that have another one, with which they agree.
+    pub again: Vec<ComponentSource>,
     /// The files that give no package.
     pub faults: Vec<ComponentFault>,
     /// The files in the folders themselves, from whose paths no name of a package follows.
@@ -56,7 +58,11 @@ pub fn read_components<F: FileSystem>(
     // No file is replaced.
     ensures { F.replaced files.new ≡ F.replaced files.old }
 {
-    let Listing { sources, misplaced, .. } = list_sources(alloc, files, sought)?;
+    let Listing {
+        sources,
+        misplaced,
+        ..
+    } = list_sources(alloc, files, sought)?;
     read_sources(alloc, files, sought, sources, misplaced)
 }
 
@@ -73,6 +79,7 @@ fn read_sources<F: FileSystem>(
     let mut components = Components {
         all: Vec::new(alloc),
         packages: IndexMap::new(alloc),
+        again: Vec::new(alloc),
         faults: Vec::new(alloc),
         misplaced,
     };
@@ -115,7 +122,10 @@ impl Components {
     ) -> Result<(), AllocError> {
         match self.made(alloc, sought, &source, bytes) {
             Ok(Made::Package(key, package)) => self.keep(source, key, package),
-            Ok(Made::Again) => Ok(()),
+            Ok(Made::Again) => {
+                self.again.push(source)?;
+                Ok(())
+            }
             Ok(Made::Faulty(fault)) => self.reject(source, fault),
             Err(_) => Err(AllocError),
         }

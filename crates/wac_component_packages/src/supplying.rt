@@ -35,7 +35,7 @@ pub enum Precedence {
 /// What became of components that were added.
 #[derive(Drop)]
 pub struct Added {
-    /// The components whose packages were added, or agree with those that are there.
+    /// The components whose packages were added, or agree with those that are there, in no order.
     pub good: Vec<ComponentSource>,
     /// The files that give no package.
     pub faults: Vec<ComponentFault>,
@@ -59,12 +59,13 @@ pub fn supply_components(
     let Components {
         all,
         packages,
+        again,
         faults,
         misplaced: _,
     } = components;
     supplied.name_all(alloc, faults.as_slice())?;
     let mut added = Added {
-        good: Vec::new(alloc),
+        good: again,
         faults,
     };
     let mut all = all.into_iter();

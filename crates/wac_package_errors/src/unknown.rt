@@ -90,7 +90,9 @@ fn push_misplaced(
 /// A path's folder, with its slash, and what is after it.
 fn split_last(path: &str) -> (&str, &str) {
     match path.rfind('/') {
-        Some(at) => path.split_at_checked(at.saturating_add(1)).unwrap_or(("", path)),
+        Some(at) => path
+            .split_at_checked(at.saturating_add(1))
+            .unwrap_or(("", path)),
         None => ("", path),
     }
 }
@@ -118,7 +120,9 @@ fn is_named(stem: &str, key: &PackageKey) -> bool {
     match stem.strip_suffix(name) {
         None => false,
         Some("") => true,
-        Some(front) => front.strip_prefix(namespace).is_some_and(|rest| is_mark(rest)),
+        Some(front) => front
+            .strip_prefix(namespace)
+            .is_some_and(|rest| is_mark(rest)),
     }
 }
 
@@ -210,7 +214,11 @@ fn push_searched(
         return out.push_str("`, or a document that declares it into `deps`");
     }
     for path in paths {
-        out.push_str(if out.is_empty() { "no file of `" } else { ", `" })?;
+        out.push_str(if out.is_empty() {
+            "no file of `"
+        } else {
+            ", `"
+        })?;
         out.push_str(path.as_str())?;
         out.push('`')?;
     }

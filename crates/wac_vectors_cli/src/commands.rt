@@ -7,7 +7,7 @@ use wac_cli::check_paths;
 use wac_cli_console::{Console, Report, Status};
 use wac_cli_packages::{
     Form, Given, GraphRequest, PackageForm, PackageRequest, TargetRequest, check_target,
-    check_with_packages, list_packages, show_graph, show_graph_with_packages, show_package,
+    check_with_packages, list_packages, show_graph, show_package,
 };
 use wac_files::MemoryFiles;
 
@@ -110,6 +110,7 @@ fn tree(alloc: Global) -> Result<MemoryFiles, AllocError> {
 fn given() -> Given<'static> {
     Given {
         packages: &["p"],
+        with_defaults: true,
         components: &[],
         may_agree: false,
         worlds: &[],
@@ -129,13 +130,19 @@ fn run_with<O: Write + Drop, E: Write + Drop>(
         Command::CheckWithPackages => {
             check_with_packages(alloc, files, console, given(), &["app.wac"])
         }
-        Command::Graph => show_graph(alloc, files, console, Form::Text, "plain.wac"),
+        Command::Graph => {
+            let request = GraphRequest {
+                path: "plain.wac",
+                form: Form::Text,
+            };
+            show_graph(alloc, files, console, given(), request)
+        }
         Command::GraphWithPackages => {
             let request = GraphRequest {
                 path: "app.wac",
                 form: Form::Text,
             };
-            show_graph_with_packages(alloc, files, console, given(), request)
+            show_graph(alloc, files, console, given(), request)
         }
         Command::Packages => list_packages(alloc, files, console, given(), "app.wac"),
         Command::Package => {

@@ -65,7 +65,8 @@ pub(crate) enum Work {
 const NO_COMPONENT: &str = "--package takes a package and a file, as in a:b@1.0.0=b.wasm";
 
 /// What is wrong with a size that is none.
-const NO_SIZE: &str = "--max-size takes a number of bytes, or one with K, M or G after it, as in 64M";
+const NO_SIZE: &str =
+    "--max-size takes a number of bytes, or one with K, M or G after it, as in 64M";
 
 /// What the program has to do.
 #[derive(Drop)]
@@ -229,7 +230,11 @@ fn misuse(task: &Task<'_>) -> Option<&'static str> {
 fn has_twice(pairs: &[(&str, &str)]) -> bool {
     for place in 0..pairs.len() {
         let (name, _) = pairs[place];
-        if pairs.iter().skip(place + 1).any(|(other, _)| *other == name) {
+        if pairs
+            .iter()
+            .skip(place + 1)
+            .any(|(other, _)| *other == name)
+        {
             return true;
         }
     }
@@ -619,7 +624,9 @@ fn max_size<'a>(alloc: Global) -> Arg<'a> {
         .long("max-size")
         .value_name("SIZE")
         .action(ArgAction::Set)
-        .help("The most bytes that a file may have, as 100000, 500K, 64M or 1G; 64M where nothing is said")
+        .help(
+            "The most bytes that a file may have, as 100000, 500K, 64M or 1G; 64M where nothing is said",
+        )
 }
 
 fn one_path<'a>(alloc: Global, name: &'a str, shown: &'a str, help: &'a str) -> Arg<'a> {

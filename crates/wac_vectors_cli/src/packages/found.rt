@@ -15,9 +15,14 @@ fn tree(alloc: Global) -> Result<MemoryFiles, AllocError> {
         "deps/a/.git",
         "deps/9c",
         "deps/a/two/x",
+        "linked",
+        "linked/links",
     ] {
         files.folder(alloc, folder)?;
     }
+    files.file(alloc, "linked/links/a.wasm", b"")?;
+    // A link to a folder isn't followed.
+    files.link(alloc, "deps/links", "linked/links")?;
     for file in [
         "deps/b/one.wasm",
         "deps/a/two/1.0.0.wasm",
@@ -26,11 +31,12 @@ fn tree(alloc: Global) -> Result<MemoryFiles, AllocError> {
         "deps/a/two/latest.wasm",
         "deps/a/t_.wasm",
         "deps/9c/x.wasm",
-        "deps/root.wasm",
         "deps/a/two/x/1.0.0.wasm",
         "deps/a/one.wac",
         "deps/a/.git/1.0.0.wasm",
         "deps/a/one.wasm",
+        // This one is in the folder itself, where it has no key.
+        "deps/root.wasm",
     ] {
         files.file(alloc, file, b"")?;
     }
@@ -59,7 +65,8 @@ fn components_are_found_by_their_places(rt: HostRuntime) -> Result<(), Fail> {
     let wanted = "a:one deps/a/one.wasm\n\
         a:two@0.9.0-rc.1 deps/a/two/0.9.0-rc.1.wasm\n\
         a:two@1.0.0 deps/a/two/1.0.0.wasm\n\
-        b:one deps/b/one.wasm\n";
+        b:one deps/b/one.wasm\n\
+        ? deps/root.wasm\n";
     assert!(rt; found.as_str() == wanted, "{found}");
     let none = lines(rt.alloc(), &mut files, "deps/b/one.wasm")?;
     assert!(rt; none.is_empty(), "{none}");

@@ -3,8 +3,11 @@ use indexmap::IndexMap;
 use std::alloc::{AllocError, Global};
 use std::io::Write;
 use std::test::Fail;
-use wac_cli_console::{Console, Outcome, Report};
-use wac_component_packages::{Components, Sought, Supplied, read_components, supply_components};
+use wac_cli_console::{Console, Report, SourceFile};
+use wac_component_packages::{
+    ComponentFault, Components, Fault, Precedence, Sought, Supplied, read_components,
+    supply_components,
+};
 use wac_declared_packages::{Declared, declare_all};
 use wac_files::MemoryFiles;
 
@@ -28,7 +31,7 @@ struct Row {
     errors: &'static str,
 }
 
-static ROWS: [Row; 10] = [
+static ROWS: [Row; 11] = [
     Row {
         paths: "deps",
         keyed: None,
@@ -62,6 +65,15 @@ static ROWS: [Row; 10] = [
         keyed: Some(("a:b", "app.wasm")),
         text: "package c:d;\n",
         may_agree: true,
+        known: 2,
+        well: 2,
+        errors: "",
+    },
+    Row {
+        paths: "deps/a/b.wasm",
+        keyed: Some(("a:b", "app.wasm")),
+        text: "package c:d;\n",
+        may_agree: false,
         known: 2,
         well: 1,
         errors: "app.wasm: error[wac::decoded-twice]: `a:b` is the package of deps/a/b.wasm too\n",
@@ -142,12 +154,23 @@ fn tree(alloc: Global) -> Result<MemoryFiles, AllocError> {
     Ok(files)
 }
 
-/// How many outcomes are good.
-fn good(outcomes: &[Outcome]) -> usize {
-    outcomes
-        .iter()
-        .filter(|outcome| **outcome == Outcome::Good)
-        .count()
+/// Writes what is wrong with a file.
+fn tell<O: Write + Drop, E: Write + Drop>(
+    alloc: Global,
+    console: &mut Console<O, E>,
+    fault: &ComponentFault,
+) -> Result<(), AllocError> {
+    let path = fault.source.path.as_str();
+    match &fault.fault {
+        Fault::Unread(error) => {
+            let _ = console.failed(alloc, Report::Human, path, *error);
+            Ok(())
+        }
+        Fault::Rejected(diagnostic) | Fault::Conflict(diagnostic) => {
+            let file = SourceFile { path, text: b"" };
+            console.report(alloc, Report::Human, &file, diagnostic)
+        }
+    }
 }
 
 /// How many packages are known where components are supplied beside a row's document, and how many components are well.
@@ -165,16 +188,24 @@ fn beside<O: Write + Drop, E: Write + Drop>(
         mut texts,
         faults: _,
     } = declare_all(alloc, &[row.text], &none)?;
-    let outcomes = {
+    let rule = if row.may_agree {
+        Precedence::Agree
+    } else {
+        Precedence::Conflict
+    };
+    let added = {
         let mut known = Supplied {
             packages: &mut packages,
             files: &mut texts,
             names: &mut names,
-            may_agree: row.may_agree,
+            rule,
         };
-        supply_components(alloc, console, Report::Human, components, &mut known)?
+        supply_components(alloc, components, &mut known)?
     };
-    Ok((packages.len(), good(outcomes.as_slice())))
+    for fault in added.faults.as_slice() {
+        tell(alloc, console, fault)?;
+    }
+    Ok((packages.len(), added.good.len()))
 }
 
 /// The names of packages with the paths of their components, of a row.
@@ -196,11 +227,11 @@ fn supplied(alloc: Global, row: &Row) -> Result<(usize, usize, Vec<u8>), AllocEr
         paths: &[row.paths],
         named: keyed.as_slice(),
         worlds: &[],
-        report: Report::Human,
+        may_agree: row.may_agree,
     };
     let (known, well) = {
         let mut console = Console::new(&mut output, &mut errors, false, false);
-        let components = read_components(alloc, &mut files, &mut console, sought)?;
+        let components = read_components(alloc, &mut files, sought)?;
         beside(alloc, &mut console, row, components)?
     };
     Ok((known, well, errors))
