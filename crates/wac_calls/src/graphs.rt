@@ -13,7 +13,7 @@ use wac_component_rules::ComponentRules;
 use wac_composition::graph_with;
 use wac_declared_packages::declared_packages;
 use wac_graph::{Package, PackageKey};
-use wac_graph_outputs::{Form, drawn};
+use wac_graph_outputs::exact_json;
 use wac_printer::Page;
 
 /// The graph that a document describes by the component model's rules, as one JSON object on a line (docs/GRAPH.md).
@@ -75,7 +75,7 @@ fn shown_with(
             let statements = Statements {
                 all: &document.statements,
             };
-            match drawn(alloc, statements, &graph, Form::Json) {
+            match exact_json(alloc, statements, &graph) {
                 Ok(line) => Ok(line),
                 Err(refused) => Err(GraphError::Memory(refused)),
             }

@@ -7,7 +7,7 @@ use std::alloc::{AllocError, Global};
 use std::io::{ErrorKind, Write};
 use std::string::ToString;
 use wac_diagnostics::{Diagnostic, github, human, json};
-use wac_excerpts::{push_carets, push_shown};
+use wac_excerpts::{push_carets, push_escaped, push_shown};
 use wac_files::FileError;
 
 /// A writer that is written to until it fails.
@@ -114,6 +114,15 @@ impl<O: Write + Drop, E: Write + Drop> Console<O, E> {
         Ok(())
     }
 
+    /// Writes a JSON value on a line for programs, with an escape for what a terminal could take for a command.
+    pub fn write_json(&mut self, alloc: Global, value: &str) -> Result<(), AllocError> {
+        let mut line = String::new(alloc);
+        push_escaped(&mut line, value)?;
+        line.push('\n')?;
+        self.output.write(line.as_bytes());
+        Ok(())
+    }
+
     /// Writes what is wrong with a file.
     pub fn report(
         &mut self,
@@ -129,9 +138,8 @@ impl<O: Write + Drop, E: Write + Drop> Console<O, E> {
                 self.errors.write(shown.as_bytes());
             }
             Report::Json => {
-                let mut line = json(alloc, path, text, diagnostic)?;
-                line.push('\n')?;
-                self.output.write(line.as_bytes());
+                let line = json(alloc, path, text, diagnostic)?;
+                self.write_json(alloc, line.as_str())?;
             }
             Report::Github => {
                 let mut line = github(alloc, path, text, diagnostic)?;
@@ -180,7 +188,7 @@ impl<O: Write + Drop, E: Write + Drop> Console<O, E> {
     /// Says that paths led to no document.
     pub fn no_document(&mut self) -> Status {
         self.errors
-            .write(b"error[wac::no-document]: no document was found\n");
+            .write(b"error[wac::nothing-to-check]: no document was found\n");
         Status::Wrong
     }
 

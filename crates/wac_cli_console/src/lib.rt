@@ -14,7 +14,6 @@ mod console;
 mod finishing;
 mod input;
 mod last_line;
-mod nothing;
 mod options;
 mod outcome;
 
@@ -22,6 +21,5 @@ pub use console::{Console, SourceFile};
 pub use finishing::{finish, finish_input};
 pub use input::{InputOptions, STDIN, read_all};
 pub use last_line::Task;
-pub use nothing::report_nothing;
 pub use options::{Action, Report};
 pub use outcome::{Outcome, Status};

@@ -10,13 +10,11 @@ use crate::telling::reject;
 use crate::verdicts::first_error_of;
 use std::alloc::{AllocError, Global};
 use std::io::Write;
-use wac_all_errors::all_errors;
-use wac_cli_console::{
-    Console, Outcome, STDIN, SourceFile, Status, Task, finish, report_nothing,
-};
+use wac_all_errors::{Finding, all_errors};
+use wac_cli_console::{Console, Outcome, STDIN, SourceFile, Status, Task, finish};
 use wac_component_packages::{folder_of, place_of};
 use wac_diagnostics::Diagnostic;
-use wac_files::{FileError, FileSystem, Found, find_files};
+use wac_files::{FileError, FileSystem, Found, Listing, find_all};
 use wac_graph::CompositionGraph;
 use wac_package_errors::{Composed, warnings_of};
 
@@ -45,10 +43,6 @@ pub fn check_with_packages<F: FileSystem, O: Write + Drop, E: Write + Drop>(
     ensures { F.replaced files.new ≡ F.replaced files.old }
 {
     match check_all(alloc, files, console, given, paths) {
-        Ok(outcomes) if outcomes.is_empty() => {
-            let status = report_nothing(alloc, console, given.report, paths);
-            status.or(finish(alloc, console, Task::Check, outcomes.as_slice()))
-        }
         Ok(outcomes) => finish(alloc, console, Task::Check, outcomes.as_slice()),
         Err(AllocError) => console.out_of_memory(),
     }
@@ -63,7 +57,11 @@ fn check_all<F: FileSystem, O: Write + Drop, E: Write + Drop>(
 ) -> Result<Vec<Outcome>, AllocError>
     ensures { F.replaced files.new ≡ F.replaced files.old }
 {
-    let found = find_files(alloc, files, paths)?;
+    let Listing {
+        files: found,
+        others,
+    } = find_all(alloc, files, paths)?;
+    console.passed_over(alloc, others.as_slice())?;
     check_each(alloc, files, console, given, found.as_slice())
 }
 
@@ -213,19 +211,34 @@ fn judge<O: Write + Drop, E: Write + Drop>(
     }
 }
 
-/// Reports the first error of a file, and those of parsing after it.
+/// Reports the first error of a file, and where it is one of parsing those after it.
 fn reject_all<O: Write + Drop, E: Write + Drop>(
     console: &mut Console<O, E>,
     context: Context<'_>,
     file: &SourceFile<'_>,
     diagnostic: &Diagnostic,
 ) -> Result<Outcome, AllocError> {
-    let outcome = reject(console, context, file, diagnostic)?;
-    let found = all_errors(context.alloc, file.text, false, MOST)?;
+    let found = all_errors(context.alloc, file.text, true, MOST)?;
+    let outcome = reject(console, context, file, with_hint(diagnostic, found.as_slice()))?;
     for finding in found.as_slice().iter().skip(1) {
         console.report(context.alloc, context.report, file, &finding.diagnostic)?;
     }
     Ok(outcome)
+}
+
+/// The first error of a text, as it is with a hint if it has no help.
+fn with_hint<'d>(diagnostic: &'d Diagnostic, found: &'d [Finding]) -> &'d Diagnostic {
+    match found.first() {
+        Some(first) if diagnostic.help.is_none() && is_same(diagnostic, &first.diagnostic) => {
+            &first.diagnostic
+        }
+        _ => diagnostic,
+    }
+}
+
+/// Whether two diagnostics are of one error.
+fn is_same(diagnostic: &Diagnostic, other: &Diagnostic) -> bool {
+    diagnostic.code == other.code && diagnostic.span == other.span
 }
 
 /// Reports what of a graph may not be meant.

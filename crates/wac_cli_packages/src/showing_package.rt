@@ -11,6 +11,7 @@ use wac_components::{Decoded, Limits, decode};
 use wac_components_documents::{Documents, documents_of};
 use wac_components_json::to_json;
 use wac_diagnostics::Diagnostic;
+use wac_excerpts::push_escaped;
 use wac_files::FileSystem;
 
 /// What is shown of a component: a text, with a warning for each thing that it can't say; or what is wrong.
@@ -108,10 +109,12 @@ fn shown_component(
     }
 }
 
-/// What is decoded, as JSON, with the end of the line.
+/// What is decoded, as JSON, with the end of the line, and an escape for what a terminal could take for a command.
 fn shown_json(alloc: Global, decoded: &Decoded) -> Result<Shown, AllocError> {
     match to_json(alloc, decoded, STEPS) {
-        Ok(mut line) => {
+        Ok(value) => {
+            let mut line = String::new(alloc);
+            push_escaped(&mut line, value.as_str())?;
             line.push('\n')?;
             Ok(Shown::Text(line, Vec::new(alloc)))
         }

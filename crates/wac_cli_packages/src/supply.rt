@@ -302,7 +302,7 @@ impl Supply {
             known: KnownPackages {
                 declared: &self.declared,
                 names: self.sources.names.as_slice(),
-                searched: Searched {
+                searched: Searched::Paths {
                     paths: self.searched.as_slice(),
                     misplaced: self.misplaced.as_slice(),
                 },

@@ -125,7 +125,8 @@ impl Listing {
     ) -> Result<(), AllocError>
         ensures { F.replaced files.new ≡ F.replaced files.old }
     {
-        for (key, path) in named {
+        for pair in named {
+            let (key, path) = *pair;
             let key = Some(String::from_str(alloc, key)?);
             let path = String::from_str(alloc, path)?;
             self.add(alloc, files, ComponentFile { path, key }, true)?;

@@ -2,6 +2,7 @@
 
 use crate::decoder::Decoder;
 use crate::frame::{Binding, Body, Described, Frame, Next, Sequel, Shape, Task};
+use crate::limits::BODY_WORK;
 use wac_components_bytes::{DecodeError, ErrorKind, error_at, found};
 use wac_components_types::{
     BodyKind, ComponentId, InstanceId, Item, NameId, Named, Owner, TypeDef, TypeId,
@@ -28,9 +29,11 @@ impl<'a> Decoder<'a> {
             self.preamble()?;
         }
         let scope = self.scopes.open(self.alloc, body.parent)?;
+        let offset = self.reader.position();
         if self.nesting >= self.limits.depth {
-            return error_at(ErrorKind::Depth, self.reader.position());
+            return error_at(ErrorKind::Depth, offset);
         }
+        self.reader.charge(BODY_WORK, offset)?;
         self.nesting = self.nesting.saturating_add(1);
         let left = if body.kind == BodyKind::Component {
             0
@@ -259,6 +262,8 @@ impl<'a> Decoder<'a> {
         let Some((name, item)) = self.table.export_at(source, place) else {
             return self.finish(frame);
         };
+        let length = self.table.name(name).len() as u64;
+        self.reader.charge(length, offset)?;
         let mut rest = frame;
         rest.task = Task::Copies(source, place.saturating_add(1), offset);
         self.frames.push(rest)?;

@@ -1,7 +1,7 @@
 //! The state of decoding, and what all of it uses.
 
 use crate::frame::{Body, Frame};
-use crate::limits::Limits;
+use crate::limits::{Limits, TYPE_WORK};
 use indexmap::IndexMap;
 use std::alloc::{AllocError, Global};
 use wac_components_bytes::{DecodeError, ErrorKind, Reader, error_at, found};
@@ -116,6 +116,7 @@ impl<'a> Decoder<'a> {
 
     /// Adds a type that is declared at an offset.
     pub(crate) fn add_type(&mut self, def: TypeDef, offset: usize) -> Result<TypeId, DecodeError> {
+        self.reader.charge(TYPE_WORK, offset)?;
         let ty = self.table.add_type(def)?;
         let (size, depth) = self.table.item_extent(Item::Type(ty));
         self.test_extent(size, depth, offset)?;

@@ -2,6 +2,7 @@
 
 use crate::decoder::Decoder;
 use crate::frame::{Binding, Frame, Next, Sequel, Task};
+use crate::limits::BODY_WORK;
 use indexmap::IndexMap;
 use wac_components_bytes::{DecodeError, ErrorKind, error_at, found};
 use wac_components_types::{Item, NameId, Sort};
@@ -63,6 +64,8 @@ impl<'a> Decoder<'a> {
     fn begin_exports(&mut self, frame: Frame) -> Result<(), DecodeError> {
         let mut exports = frame;
         exports.left = self.reader.count()?;
+        let offset = self.reader.position();
+        self.reader.charge(BODY_WORK, offset)?;
         exports.task = Task::Exports;
         exports.instance = self.table.add_instance(self.alloc)?;
         exports.marks = false;

@@ -108,9 +108,9 @@ impl<'t> Converter<'t> {
     }
 
     /// The name of a part, copied.
-    fn part_name(&self, part: Part) -> Result<String, ConversionError> {
+    fn part_name(&mut self, part: Part) -> Result<String, ConversionError> {
         match part.name {
-            Some(name) => Ok(self.text(name)?),
+            Some(name) => self.text(name),
             None => Err(ConversionError::Unsupported),
         }
     }
@@ -123,14 +123,18 @@ impl<'t> Converter<'t> {
     }
 
     /// A field of a record, or a parameter.
-    fn field(&self, parts: Parts, place: usize) -> Result<(String, ValueType), ConversionError> {
+    fn field(
+        &mut self,
+        parts: Parts,
+        place: usize,
+    ) -> Result<(String, ValueType), ConversionError> {
         let part = self.part(parts, place)?;
         let ty = self.part_type(part)?;
         let name = self.part_name(part)?;
         Ok((name, ty))
     }
 
-    fn fields(&self, parts: Parts) -> Result<IndexMap<String, ValueType>, ConversionError> {
+    fn fields(&mut self, parts: Parts) -> Result<IndexMap<String, ValueType>, ConversionError> {
         let mut all = IndexMap::new(self.alloc);
         for place in 0..parts.count {
             let (name, ty) = self.field(parts, place)?;
@@ -141,7 +145,7 @@ impl<'t> Converter<'t> {
 
     /// A case of a variant.
     fn case(
-        &self,
+        &mut self,
         parts: Parts,
         place: usize,
     ) -> Result<(String, Option<ValueType>), ConversionError> {
@@ -151,7 +155,10 @@ impl<'t> Converter<'t> {
         Ok((name, ty))
     }
 
-    fn cases(&self, parts: Parts) -> Result<IndexMap<String, Option<ValueType>>, ConversionError> {
+    fn cases(
+        &mut self,
+        parts: Parts,
+    ) -> Result<IndexMap<String, Option<ValueType>>, ConversionError> {
         let mut all = IndexMap::new(self.alloc);
         for place in 0..parts.count {
             let (name, ty) = self.case(parts, place)?;
@@ -160,11 +167,12 @@ impl<'t> Converter<'t> {
         Ok(all)
     }
 
-    fn labels(&self, parts: Parts) -> Result<IndexSet<String>, ConversionError> {
+    fn labels(&mut self, parts: Parts) -> Result<IndexSet<String>, ConversionError> {
         let mut all = IndexSet::new(self.alloc);
         for place in 0..parts.count {
             let part = self.part(parts, place)?;
-            all.insert(self.part_name(part)?)?;
+            let name = self.part_name(part)?;
+            all.insert(name)?;
         }
         Ok(all)
     }

@@ -10,12 +10,17 @@ use wac_components::Decoded;
 use wac_components_types::Item;
 use wac_graph_types::{Interface, InterfaceId, ItemKind, Package, PackageError, WorldId};
 
+/// How many bytes of names are copied at most for each unit of work that decoding took: a name is read where it is given,
+/// and copied for what is given, for its use elsewhere, and for the world and the instance that has it.
+const LETTERS: u64 = 8;
+
 /// Why a decoded component is no package.
 #[derive(Debug, Drop)]
 pub enum ConversionError {
     /// A type of it can't be said: a list of fixed length, a map, or a type in use that is none of values.
     Unsupported,
-    /// There is more to convert than the limit of steps allows.
+    /// There is more to convert than the limit of steps allows, or the names that are to be copied are longer together
+    /// than eight times the work that decoding took.
     TooLarge,
     /// Its types are no package.
     Package(PackageError),
@@ -54,7 +59,8 @@ impl<T: Drop> From<AllocFailed<T>> for ConversionError {
 pub fn package_of(alloc: Global, decoded: &Decoded, steps: u64) -> Result<Package, ConversionError>
     ensures { IfOk result IsPackage }
 {
-    let mut converter = Converter::new(alloc, &decoded.table);
+    let letters = decoded.used.work.saturating_mul(LETTERS);
+    let mut converter = Converter::new(alloc, &decoded.table, letters);
     let world = converter.convert(decoded.component, steps)?;
     let instance = root_instance(alloc, &mut converter, world)?;
     let definitions = definitions(alloc, decoded, &converter)?;

@@ -2,7 +2,7 @@
 
 use crate::conversion::ConversionError;
 use indexmap::IndexMap;
-use std::alloc::{AllocError, Global};
+use std::alloc::Global;
 use wac_components_types::{
     ComponentId, InstanceId, Item, NameId, Owner, Parts, Table, TypeDef, TypeId,
 };
@@ -31,6 +31,8 @@ pub(crate) struct Converter<'t> {
     pub names: IndexMap<usize, NameId>,
     pub visits: Vec<Visit>,
     pub modules: usize,
+    /// How many bytes of names may still be copied.
+    pub letters: u64,
 }
 
 impl<'t> Drop for Converter<'t> {
@@ -45,12 +47,14 @@ impl<'t> Drop for Converter<'t> {
             names: _,
             visits: _,
             modules: _,
+            letters: _,
         } = self;
     }
 }
 
 impl<'t> Converter<'t> {
-    pub(crate) fn new(alloc: Global, table: &'t Table) -> Self {
+    /// A converter of a table, which copies at most so many bytes of names.
+    pub(crate) fn new(alloc: Global, table: &'t Table, letters: u64) -> Self {
         Converter {
             alloc,
             table,
@@ -61,6 +65,7 @@ impl<'t> Converter<'t> {
             names: IndexMap::new(alloc),
             visits: Vec::new(alloc),
             modules: 0,
+            letters,
         }
     }
 
@@ -75,6 +80,7 @@ impl<'t> Converter<'t> {
             names: _,
             visits: _,
             modules: _,
+            letters: _,
         } = self;
         types
     }
@@ -263,8 +269,14 @@ impl<'t> Converter<'t> {
         }
     }
 
-    /// The text of a name, copied.
-    pub(crate) fn text(&self, name: NameId) -> Result<String, AllocError> {
-        String::from_str(self.alloc, self.table.name(name))
+    /// The text of a name, copied, if it may be.
+    pub(crate) fn text(&mut self, name: NameId) -> Result<String, ConversionError> {
+        let text = self.table.name(name);
+        let length = text.len() as u64;
+        if self.letters < length {
+            return Err(ConversionError::TooLarge);
+        }
+        self.letters -= length;
+        Ok(String::from_str(self.alloc, text)?)
     }
 }

@@ -54,7 +54,7 @@ impl<'t> Converter<'t> {
 
     /// Adds a type that an interface or a world has from another interface.
     fn add_use(
-        &self,
+        &mut self,
         uses: &mut IndexMap<String, UsedType>,
         name: NameId,
         ty: TypeId,
@@ -174,15 +174,15 @@ impl<'t> Converter<'t> {
 
     /// The name of an interface: that of the type whose it is, or the one under which a world has it, where that is a
     /// path.
-    fn id_of(&self, instance: InstanceId) -> Result<Option<String>, ConversionError> {
+    fn id_of(&mut self, instance: InstanceId) -> Result<Option<String>, ConversionError> {
         let found = match self.table.instance(instance) {
             Some(found) => found.name,
             None => None,
         };
         match found {
             Some((_, name)) if self.table.name(name).contains('/') => Ok(Some(self.text(name)?)),
-            _ => match self.names.get(&instance.0) {
-                Some(name) => Ok(Some(self.text(*name)?)),
+            _ => match self.names.get(&instance.0).copied() {
+                Some(name) => Ok(Some(self.text(name)?)),
                 None => Ok(None),
             },
         }

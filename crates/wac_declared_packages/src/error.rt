@@ -23,6 +23,9 @@ pub enum DeclarationError {
     UnknownPackage(SourceSpan),
     /// The package mentions itself through others. The place is a mention among these.
     Cycle(SourceSpan),
+    /// With this package all would be larger together than they may be, by its own size or by that of those that it
+    /// mentions, of which it has copies. The place is the package's name, or the mention of the largest of these.
+    TooLarge(SourceSpan),
     /// The document can't be resolved.
     Resolution(Error),
     /// The parts make no package. No document is known that leads here.
@@ -43,7 +46,8 @@ impl DeclarationError {
             | DeclarationError::NoSuchWorld(span)
             | DeclarationError::DeclaredTwice(span)
             | DeclarationError::UnknownPackage(span)
-            | DeclarationError::Cycle(span) => Some(*span),
+            | DeclarationError::Cycle(span)
+            | DeclarationError::TooLarge(span) => Some(*span),
             DeclarationError::Resolution(error) => error.span(),
             DeclarationError::Parts(_) | DeclarationError::Unmade | DeclarationError::Memory(_) =>
                 None,
@@ -78,6 +82,9 @@ impl fmt::Display for DeclarationError {
             DeclarationError::DeclaredTwice(_) => f.write_str("the package is declared twice"),
             DeclarationError::UnknownPackage(_) => f.write_str("unknown package"),
             DeclarationError::Cycle(_) => f.write_str("the package mentions itself through others"),
+            DeclarationError::TooLarge(_) => f.write_str(
+                "the packages are too large together: each has copies of those that it mentions",
+            ),
             DeclarationError::Resolution(error) => write!(f, "{error}"),
             DeclarationError::Parts(error) => write!(f, "{error}"),
             DeclarationError::Unmade => f.write_str("the package was not made"),

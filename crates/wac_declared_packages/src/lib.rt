@@ -25,6 +25,7 @@ mod many;
 mod outlines;
 mod package;
 mod rules;
+mod sizes;
 mod sources;
 mod supplying;
 mod worlds;

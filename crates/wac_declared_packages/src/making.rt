@@ -10,6 +10,7 @@ use crate::declaration::declared_package;
 use crate::error::DeclarationError;
 use crate::header::{Header, key_of};
 use crate::outlines::{Outlines, first_missing};
+use crate::sizes::size_of;
 use crate::sources::{Sources, text_at, world_of};
 use crate::supplying::{put, supplied_packages};
 use indexmap::IndexMap;
@@ -118,7 +119,15 @@ fn keep(
     ensures { OnOk result (AreFrom sources.now made.new.entries) }
 {
     match outcome {
-        Ok((key, package)) => put(made, key, package),
+        Ok((key, package)) => {
+            let size = size_of(package.types());
+            if outlines.sizes.has_room(size) {
+                outlines.sizes.note(text, size);
+                put(made, key, package)
+            } else {
+                outlines.reject_large(text)
+            }
+        }
         Err(DeclarationError::Memory(refused)) => Err(refused),
         Err(error) => outlines.reject_text(text, error),
     }
@@ -141,7 +150,10 @@ fn make(
     let (Some(header), Some(text)) = (outlines.header(number), text_at(sources, number)) else {
         return Ok(false);
     };
-    let outcome = made_of(alloc, sources, header, made, text);
+    let outcome = match outlines.too_large(header) {
+        Some(place) => Err(DeclarationError::TooLarge(place)),
+        None => made_of(alloc, sources, header, made, text),
+    };
     keep(outlines, made, sources, number, outcome)?;
     Ok(true)
 }

@@ -82,6 +82,7 @@ pub fn declare_all(
         headers: _,
         texts,
         faults,
+        sizes: _,
     } = outlines;
     Ok(Declared {
         packages,
@@ -100,6 +101,7 @@ fn without_faults(work: Work) -> Result<IndexMap<PackageKey, Package>, Declarati
         headers: _,
         texts: _,
         faults,
+        sizes: _,
     } = outlines;
     match faults.into_iter().next() {
         Some(fault) => Err(fault),

@@ -3,19 +3,21 @@ ghost use Rattle.std.specs.Prelude.{◌<◌, OnOk, vec_len};
 
 use crate::error::{DeclarationError, DeclarationFault};
 use crate::header::{Header, directive_key, read_header};
+use crate::sizes::Sizes;
 use crate::supplying::copied_key;
 use indexmap::IndexMap;
 use std::alloc::{AllocError, Global};
 use wac_graph::PackageKey;
 use wac_lexer::SourceSpan;
 
-/// The headers of texts. A text that has a fault has none.
+/// The headers of texts, and the sizes of the packages that are made. A text that has a fault has no header.
 #[derive(Drop)]
 pub(crate) struct Outlines {
     pub(crate) headers: Vec<Option<Header>>,
     /// Which text declares a package, faulty ones too.
     pub(crate) texts: IndexMap<PackageKey, usize>,
     pub(crate) faults: Vec<DeclarationFault>,
+    pub(crate) sizes: Sizes,
 }
 
 impl Outlines {
@@ -25,6 +27,7 @@ impl Outlines {
             headers: Vec::with_capacity(alloc, texts.len())?,
             texts: IndexMap::new(alloc),
             faults: Vec::new(alloc),
+            sizes: Sizes::of(alloc, texts)?,
         };
         for text in 0..texts.len() {
             outlines.add(alloc, text, texts[text])?;
@@ -115,6 +118,43 @@ impl Outlines {
             Some(Some(header)) => Some(header),
             _ => None,
         }
+    }
+
+    /// Where a text mentions the largest package, if copies of those that it mentions would leave no room.
+    pub(crate) fn too_large(&self, header: &Header) -> Option<SourceSpan> {
+        let mut all: u64 = 0;
+        let mut largest: u64 = 0;
+        let mut largest_place = None;
+        for (key, place) in header.mentioned.iter() {
+            let size = self.size_of(key);
+            all = all.saturating_add(size);
+            if largest < size {
+                largest = size;
+                largest_place = Some(*place);
+            }
+        }
+        if self.sizes.has_room(all) {
+            None
+        } else {
+            largest_place
+        }
+    }
+
+    /// The size of the package of a key.
+    fn size_of(&self, key: &PackageKey) -> u64 {
+        match self.texts.get(key) {
+            Some(text) => self.sizes.of_text(*text),
+            None => 0,
+        }
+    }
+
+    /// Rejects a text whose package is larger than there is room for.
+    pub(crate) fn reject_large(&mut self, text: usize) -> Result<(), AllocError> {
+        let error = match self.header(text) {
+            Some(header) => DeclarationError::TooLarge(header.place),
+            None => DeclarationError::Unmade,
+        };
+        self.reject_text(text, error)
     }
 
     /// Where a text first mentions a package that no text declares.

@@ -1,5 +1,5 @@
 -- Characters as a terminal shows them.
-use Rattle.std.specs.Prelude.{ℕ, List, [], ◌++◌, ◌-◌, ◌^◌, Bool, ◌&&◌, ◌||◌, false, nat_eq, nat_lt, nat_le, map, flat_map, codes, chars, encode_utf8, encode_utf8_all, unwrap_or, if◌then◌else◌}
+use Rattle.std.specs.Prelude.{ℕ, List, [], ◌++◌, ◌+◌, ◌-◌, ◌^◌, ◌%◌, Bool, ◌&&◌, ◌||◌, not, false, nat_eq, nat_lt, nat_le, map, flat_map, codes, chars, encode_utf8, encode_utf8_all, unwrap_or, if◌then◌else◌}
 use Rattle.std.specs.Fmt.{digits, format_spec, padded_integral}
 use Rattle.unicode_width.specs.Width.{char_width}
 
@@ -36,6 +36,25 @@ escaped_character c = if is_command c then (codes "\\u" ++ padded_integral (form
 
 abbrev pub escaped_text : List ℕ → List ℕ
 escaped_text text = flat_map escaped_character (chars text)
+
+-- a byte below 128 as `cat -v` shows it
+abbrev pub caret_low : ℕ → List ℕ
+caret_low n = if nat_lt n 32 then (codes "^" ++ encode_utf8 (n + 64)) else (if nat_eq n 127 then codes "^?" else encode_utf8 n)
+
+-- the same of any byte: `M-` is for its highest bit
+abbrev pub caret_byte : ℕ → List ℕ
+caret_byte b = (if nat_le 128 b then codes "M-" else []) ++ caret_low (b % 128)
+
+-- a command that is shown by its bytes: a tab and the end of a line stay
+abbrev pub has_carets : ℕ → Bool
+has_carets c = is_command c && not (nat_eq c 9 || nat_eq c 10)
+
+abbrev pub caret_character : ℕ → List ℕ
+caret_character c = if has_carets c then flat_map caret_byte (encode_utf8 c) else encode_utf8 c
+
+-- a text of several lines
+abbrev pub caret_text : List ℕ → List ℕ
+caret_text text = flat_map caret_character (chars text)
 
 -- how many columns a character takes; a tab takes those of four blanks
 abbrev pub columns : ℕ → ℕ

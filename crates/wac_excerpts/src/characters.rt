@@ -1,6 +1,6 @@
 //! Characters as a terminal shows them.
-ghost use Rattle.std.specs.Prelude.{◌≡◌, ◌++◌, OnOk, string_bytes};
-ghost use Rattle.wac_excerpts.specs.Characters.{columns, escaped_character, escaped_text, is_command, shown, shown_on_lines, shown_lines, shown_text};
+ghost use Rattle.std.specs.Prelude.{◌≡◌, ◌<◌, ◌++◌, OnOk, flat_map, string_bytes};
+ghost use Rattle.wac_excerpts.specs.Characters.{caret_byte, caret_character, caret_low, caret_text, columns, escaped_character, escaped_text, has_carets, is_command, shown, shown_on_lines, shown_lines, shown_text};
 
 use std::alloc::AllocError;
 use unicode_width::UnicodeWidthChar;
@@ -91,20 +91,38 @@ fn push_escape(out: &mut String, c: char) -> Result<(), AllocError>
 
 /// Appends a text of several lines with its commands as `cat -v` shows them: `^[` for an escape, `M-bM-^@M-.` for an
 /// override. Tabs and the ends of lines stay.
-pub fn push_carets(out: &mut String, text: &str) -> Result<(), AllocError> {
-    let mut room = [0u8; 4];
+pub fn push_carets(out: &mut String, text: &str) -> Result<(), AllocError>
+    ensures { OnOk result (string_bytes out.new ≡ string_bytes out.old ++ caret_text text.now) }
+{
     for c in text.chars() {
-        if is_command(c) && c != '\t' && c != '\n' {
-            push_caret_bytes(out, c.encode_utf8(&mut room).as_bytes())?;
-        } else {
-            out.push(c)?;
-        }
+        push_caret_character(out, c)?;
     }
     Ok(())
 }
 
+/// Whether a character is shown by its bytes.
+fn has_carets(c: char) -> bool
+    ensures { result ≡ has_carets c }
+{
+    is_command(c) && !(c == '\t' || c == '\n')
+}
+
+/// Appends a character as `cat -v` shows it, where it is a command.
+fn push_caret_character(out: &mut String, c: char) -> Result<(), AllocError>
+    ensures { OnOk result (string_bytes out.new ≡ string_bytes out.old ++ caret_character c) }
+{
+    if has_carets(c) {
+        let mut room = [0u8; 4];
+        push_caret_bytes(out, c.encode_utf8(&mut room).as_bytes())
+    } else {
+        out.push(c)
+    }
+}
+
 /// Appends bytes as `cat -v` shows them.
-fn push_caret_bytes(out: &mut String, bytes: &[u8]) -> Result<(), AllocError> {
+fn push_caret_bytes(out: &mut String, bytes: &[u8]) -> Result<(), AllocError>
+    ensures { OnOk result (string_bytes out.new ≡ string_bytes out.old ++ flat_map caret_byte bytes.now) }
+{
     for byte in bytes {
         push_caret_byte(out, *byte)?;
     }
@@ -112,18 +130,27 @@ fn push_caret_bytes(out: &mut String, bytes: &[u8]) -> Result<(), AllocError> {
 }
 
 /// Appends a byte as `cat -v` shows it: `M-` for its highest bit, and a caret for a control character.
-fn push_caret_byte(out: &mut String, byte: u8) -> Result<(), AllocError> {
-    let low = byte % 128;
+fn push_caret_byte(out: &mut String, byte: u8) -> Result<(), AllocError>
+    ensures { OnOk result (string_bytes out.new ≡ string_bytes out.old ++ caret_byte byte) }
+{
     if byte >= 128 {
         out.push_str("M-")?;
     }
-    match low {
+    push_caret_low(out, byte % 128)
+}
+
+/// The same of a byte below 128.
+fn push_caret_low(out: &mut String, byte: u8) -> Result<(), AllocError>
+    requires { byte < 128 }
+    ensures { OnOk result (string_bytes out.new ≡ string_bytes out.old ++ caret_low byte) }
+{
+    match byte {
         0..=31 => {
             out.push('^')?;
-            out.push(char::from(low + 64))
+            out.push(char::from(byte + 64))
         }
         127 => out.push_str("^?"),
-        _ => out.push(char::from(low)),
+        _ => out.push(char::from(byte)),
     }
 }
 

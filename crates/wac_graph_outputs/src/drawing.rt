@@ -5,6 +5,7 @@ use crate::picture::Picture;
 use crate::rows::NodeRow;
 use indexmap::IndexMap;
 use std::alloc::{AllocError, Global};
+use wac_excerpts::shown;
 
 /// A graph in the language of Graphviz: instances are boxes with their packages, imports and exports are arrows. An edge
 /// leads from what is given to what it is given to, with the name of the argument. An alias isn't drawn: its edges begin
@@ -28,13 +29,13 @@ fn push_graph(alloc: Global, out: &mut String, picture: &Picture) -> Result<(), 
     out.push_str("}\n")
 }
 
-/// Appends a text between quotes. A name has neither a quote nor a backslash.
+/// Appends a text between quotes, with U+FFFD for what a terminal could take for a command.
 fn push_quoted(out: &mut String, text: &str) -> Result<(), AllocError> {
     for character in text.chars() {
         if character == '"' || character == '\\' {
             out.push('\\')?;
         }
-        out.push(character)?;
+        out.push(shown(character))?;
     }
     Ok(())
 }

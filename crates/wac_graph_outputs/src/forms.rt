@@ -6,6 +6,7 @@ use crate::picture::Picture;
 use crate::places::bound_places;
 use std::alloc::{AllocError, Global};
 use wac_ast::internals::Statements;
+use wac_excerpts::push_escaped;
 use wac_graph::CompositionGraph;
 
 /// The form in which a graph is shown.
@@ -19,7 +20,8 @@ pub enum Form {
     Dot,
 }
 
-/// The graph of a document with these statements, in a form. docs/GRAPH.md describes the three.
+/// The graph of a document with these statements, in a form. docs/GRAPH.md describes the three. Nothing in it commands a
+/// terminal.
 pub fn drawn(
     alloc: Global,
     statements: Statements<'_, '_>,
@@ -27,7 +29,19 @@ pub fn drawn(
     form: Form,
 ) -> Result<Vec<u8>, AllocError> {
     match picture_of(alloc, statements, graph) {
-        Ok(picture) => shown(alloc, graph, &picture, form),
+        Ok(picture) => shown(alloc, &picture, form),
+        Err(error) => Err(error),
+    }
+}
+
+/// The graph of a document with these statements, as one JSON object on a line, whose names have each character as it is.
+pub fn exact_json(
+    alloc: Global,
+    statements: Statements<'_, '_>,
+    graph: &CompositionGraph,
+) -> Result<Vec<u8>, AllocError> {
+    match picture_of(alloc, statements, graph) {
+        Ok(picture) => exact_line(alloc, &picture),
         Err(error) => Err(error),
     }
 }
@@ -43,17 +57,18 @@ fn picture_of(
 }
 
 /// A graph in a form.
-fn shown(
-    alloc: Global,
-    graph: &CompositionGraph,
-    picture: &Picture,
-    form: Form,
-) -> Result<Vec<u8>, AllocError> {
+fn shown(alloc: Global, picture: &Picture, form: Form) -> Result<Vec<u8>, AllocError> {
     match form {
-        Form::Text => text(alloc, graph, picture),
+        Form::Text => lines(alloc, picture),
         Form::Json => json_line(alloc, picture),
         Form::Dot => dot_text(alloc, picture),
     }
+}
+
+/// A graph as lines.
+fn lines(alloc: Global, picture: &Picture) -> Result<Vec<u8>, AllocError> {
+    let text = text(alloc, picture)?;
+    Vec::from_slice(alloc, text.as_bytes())
 }
 
 /// A graph for Graphviz.
@@ -63,8 +78,17 @@ fn dot_text(alloc: Global, picture: &Picture) -> Result<Vec<u8>, AllocError> {
 }
 
 /// A graph as JSON, with the end of the line.
-fn json_line(alloc: Global, picture: &Picture) -> Result<Vec<u8>, AllocError> {
+fn exact_line(alloc: Global, picture: &Picture) -> Result<Vec<u8>, AllocError> {
     let mut line = json(alloc, picture)?;
+    line.push('\n')?;
+    Vec::from_slice(alloc, line.as_bytes())
+}
+
+/// The same, with an escape for what a terminal could take for a command.
+fn json_line(alloc: Global, picture: &Picture) -> Result<Vec<u8>, AllocError> {
+    let exact = json(alloc, picture)?;
+    let mut line = String::new(alloc);
+    push_escaped(&mut line, exact.as_str())?;
     line.push('\n')?;
     Vec::from_slice(alloc, line.as_bytes())
 }

@@ -18,7 +18,7 @@ mod places;
 mod rows;
 
 pub use drawing::dot;
-pub use forms::{Form, drawn};
+pub use forms::{Form, drawn, exact_json};
 pub use lines::text;
 pub use objects::json;
 pub use open::{OpenImport, open_imports};

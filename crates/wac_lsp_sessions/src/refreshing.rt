@@ -5,6 +5,7 @@ ghost use Rattle.wac_lsp.specs.Replies.{AreReplies, replies};
 use serde_json::json;
 use std::alloc::{AllocError, Global};
 use wac_diagnostics::Diagnostic;
+use wac_excerpts::push_shown;
 use wac_lsp::{Document, Sent, Server};
 use wac_lsp_folders::path_of_uri;
 use wac_lsp_messages::notification;
@@ -69,8 +70,10 @@ pub(crate) fn all_published(
     Ok(messages)
 }
 
-/// A line for the log of a client.
+/// A line for the log of a client, as it is shown: a terminal may be where the client writes it.
 pub(crate) fn logged(alloc: Global, line: &str) -> Result<String, AllocError> {
-    let params = json!(in alloc; {"type": WARNING, "message": line})?;
+    let mut shown = String::new(alloc);
+    push_shown(&mut shown, line)?;
+    let params = json!(in alloc; {"type": WARNING, "message": shown.as_str()})?;
     notification(alloc, "window/logMessage", params)
 }

@@ -455,7 +455,7 @@ impl Packages {
         KnownPackages {
             declared: &self.declared,
             names: self.names.as_slice(),
-            searched: Searched {
+            searched: Searched::Paths {
                 paths: self.searched.as_slice(),
                 misplaced: self.misplaced.as_slice(),
             },

@@ -25,6 +25,7 @@ fn declaration_code(error: &DeclarationError) -> &'static str {
         DeclarationError::DeclaredTwice(_) => "wac::declared-twice",
         DeclarationError::UnknownPackage(_) => "wac::unknown-package",
         DeclarationError::Cycle(_) => "wac::package-cycle",
+        DeclarationError::TooLarge(_) => "wac::packages-too-large",
         DeclarationError::Resolution(error) => resolution_code(error),
         DeclarationError::Parts(_) | DeclarationError::Unmade => "wac::no-package",
         DeclarationError::Memory(_) => "wac::out-of-memory",
@@ -41,6 +42,7 @@ fn help_for(error: &DeclarationError) -> Option<&'static str> {
         DeclarationError::NoSuchWorld(_) => Some("name one of its worlds by --world"),
         DeclarationError::DeclaredTwice(_) => Some("remove one of the two documents"),
         DeclarationError::Cycle(_) => Some("move what both need into a package of its own"),
+        DeclarationError::TooLarge(_) => Some("let packages mention fewer of those that mention others"),
         _ => None,
     }
 }

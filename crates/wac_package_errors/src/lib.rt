@@ -3,7 +3,7 @@
 //!
 //! ```text
 //! let declared = declare_all(alloc, &texts, &worlds)?;
-//! let known = KnownPackages { declared: &declared, names: &paths, searched: Searched { paths: &[], misplaced: &[] } };
+//! let known = KnownPackages { declared: &declared, names: &paths, searched: Searched::Folders };
 //! match first_error_with(alloc, text, known)? {
 //!     Composed::Resolved(graph) => ..,
 //!     Composed::Unresolved => ..,                     // it mentions a package that has an error

@@ -9,11 +9,15 @@ use wac_package_names::{are_compatible_names, nearest_packages, push_key};
 
 /// Where packages were looked for.
 #[derive(Clone, Copy)]
-pub struct Searched<'s> {
-    /// The files and folders that were looked at.
-    pub paths: &'s [String],
-    /// Files of components in these folders from whose paths no name of a package follows.
-    pub misplaced: &'s [String],
+pub enum Searched<'s> {
+    /// In the folders of an editor.
+    Folders,
+    /// In files and folders.
+    Paths {
+        paths: &'s [String],
+        /// Files of components in these folders from whose paths no name of a package follows.
+        misplaced: &'s [String],
+    },
 }
 
 /// What can be done about the package that a document mentions at a place: the first that applies of a file that isn't at
@@ -69,7 +73,10 @@ fn push_misplaced(
     searched: Searched<'_>,
     key: &PackageKey,
 ) -> Result<(), AllocError> {
-    for path in searched.misplaced {
+    let Searched::Paths { misplaced, .. } = searched else {
+        return Ok(());
+    };
+    for path in misplaced {
         let (folder, name) = split_last(path.as_str());
         if is_like(name, key) {
             write!(out, "`{path}` is not at `{folder}")?;
@@ -194,12 +201,15 @@ fn push_searched(
     searched: Searched<'_>,
     key: &PackageKey,
 ) -> Result<(), AllocError> {
-    if searched.paths.is_empty() {
+    let Searched::Paths { paths, .. } = searched else {
+        return out.push_str("no file of the folders has it");
+    };
+    if paths.is_empty() {
         out.push_str("put its component at `deps/")?;
         push_place(out, key)?;
         return out.push_str("`, or a document that declares it into `deps`");
     }
-    for path in searched.paths {
+    for path in paths {
         out.push_str(if out.is_empty() { "no file of `" } else { ", `" })?;
         out.push_str(path.as_str())?;
         out.push('`')?;

@@ -83,6 +83,8 @@ struct After {
     is_right: bool,
     /// How many names the folder has.
     names: usize,
+    /// How many are left by the next run.
+    swept: usize,
 }
 
 /// Replaces a file, where the call fails that comes after so many others.
@@ -100,10 +102,13 @@ fn replace_failing(rt: &HostRuntime, folder: &str, failing: usize) -> Result<Aft
     };
     let held = fs::read(rt, path.as_str())?;
     let wanted = if replaced.is_ok() { NEW } else { OLD };
+    let names = count(rt, folder)?;
+    Disk::new(*rt, 1, MOST_BYTES).sweep(rt.alloc(), path.as_str())?;
     Ok(After {
         is_made: failing < calls.count(),
         is_right: held.as_slice() == wanted,
-        names: count(rt, folder)?,
+        names,
+        swept: count(rt, folder)?,
     })
 }
 
@@ -111,15 +116,44 @@ fn replace_failing(rt: &HostRuntime, folder: &str, failing: usize) -> Result<Aft
 fn files_are_old_or_new_where_a_call_fails(rt: HostRuntime) -> Result<(), Fail> {
     let folder = folder(&rt, "failing")?;
     let mut made = 0usize;
-    for failing in 0..40 {
+    let mut left = 0usize;
+    for failing in 0..100 {
         let after = replace_failing(&rt, folder.as_str(), failing)?;
         assert!(rt; after.is_right, "at call {failing}");
-        assert_eq!(rt; after.names, 1, "at call {failing}");
+        assert_eq!(rt; after.swept, 1, "at call {failing}");
+        if after.names > 1 {
+            left = left.saturating_add(1);
+        }
         if after.is_made {
             made = made.saturating_add(1);
         }
     }
-    // Each of the calls has failed once: to resolve, look, open, create, write, own, permit, sync, read and rename.
-    assert!(rt; 10 <= made && made < 40, "{made} calls");
+    // Each of the calls has failed once: to resolve, look, open, create, read, write, cut, sync and remove.
+    assert!(rt; 10 <= made && made < 100, "{made} calls");
+    // Only where it could not be removed a copy was left.
+    assert_eq!(rt; left, 1);
     remove(&rt, folder.as_str())
+}
+
+#[test]
+fn files_larger_than_the_limit_are_not_read(rt: HostRuntime) -> Result<(), Fail> {
+    let folder = folder(&rt, "large")?;
+    let path = format!(in rt.alloc(); "{folder}/a.wac")?;
+    fs::write(&rt, path.as_str(), OLD)?;
+    let len = OLD.len() as u64;
+    let read = Disk::new(rt, 1, len).read(rt.alloc(), path.as_str())?;
+    assert_eq!(rt; read.as_slice(), OLD);
+    let refused = Disk::new(rt, 1, len - 1).read(rt.alloc(), path.as_str());
+    assert_eq!(rt; refused.err(), Some(FileError::TooLarge(len - 1)));
+    remove(&rt, folder.as_str())
+}
+
+#[test]
+fn what_is_no_regular_file_is_not_read(rt: HostRuntime) -> Result<(), Fail> {
+    let mut disk = Disk::new(rt, 1, MOST_BYTES);
+    for path in ["/dev/zero", "/proc/self/status", "/"].as_slice() {
+        let refused = disk.read(rt.alloc(), path);
+        assert_eq!(rt; refused.err(), Some(FileError::NotAFile), "{path}");
+    }
+    Ok(())
 }

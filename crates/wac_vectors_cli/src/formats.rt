@@ -33,9 +33,10 @@ fn holds(files: &MemoryFiles, path: &str, text: &str) -> bool {
     }
 }
 
-/// The error of the file that has one, and a last line.
+/// What is said of the pipe, the error of the file that has one, and a last line.
 fn errors(alloc: Global, last_line: &str) -> Result<String, Fail> {
-    let mut errors = String::from_str(alloc, BAD_ERROR)?;
+    let mut errors = String::from_str(alloc, "pipe.wac: passed over, since it is no file\n")?;
+    errors.push_str(BAD_ERROR)?;
     errors.push_str(last_line)?;
     Ok(errors)
 }
@@ -119,6 +120,49 @@ fn no_file_is_lost_where_a_call_fails(rt: HostRuntime) -> Result<(), Fail> {
     }
     assert!(rt; 10 <= made && made < 40, "{made} calls");
     Ok(())
+}
+
+#[test]
+fn links_are_written_through_where_they_are_named(rt: HostRuntime) -> Result<(), Fail> {
+    let mut files = MemoryFiles::new(rt.alloc());
+    files.folder(rt.alloc(), "a")?;
+    files.file(rt.alloc(), "b.wac", UNTIDY.as_bytes())?;
+    files.link(rt.alloc(), "a/to-b.wac", "b.wac")?;
+    let run = format(rt.alloc(), &mut files, options(Action::Write), &["a"]);
+    let said =
+        "error[wac::no-document]: no document was found\n0 files, 0 changed, 0 with errors\n";
+    expect(&rt, &run, 1, "", said)?;
+    assert!(rt; holds(&files, "b.wac", UNTIDY));
+    let run = format(
+        rt.alloc(),
+        &mut files,
+        options(Action::Write),
+        &["a/to-b.wac"],
+    );
+    expect(
+        &rt,
+        &run,
+        0,
+        "a/to-b.wac\n",
+        "1 file, 1 changed, 0 with errors\n",
+    )?;
+    assert!(rt; holds(&files, "b.wac", TIDY));
+    Ok(())
+}
+
+#[test]
+fn files_larger_than_the_limit_are_refused(rt: HostRuntime) -> Result<(), Fail> {
+    let mut files = tree(rt.alloc())?;
+    files.limit(UNTIDY.len() as u64);
+    let run = format(
+        rt.alloc(),
+        &mut files,
+        options(Action::Write),
+        &["untidy.wac", "tidy.wac"],
+    );
+    let said = "tidy.wac: error[wac::too-large]: larger than 31 bytes, the most that is read\n\
+        2 files, 1 changed, 0 with errors, 1 failed\n";
+    expect(&rt, &run, 3, "untidy.wac\n", said)
 }
 
 #[test]

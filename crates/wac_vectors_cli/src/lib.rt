@@ -17,6 +17,8 @@ mod failing;
 #[cfg(test)]
 mod formats;
 #[cfg(test)]
+mod leftovers;
+#[cfg(test)]
 mod packages;
 #[cfg(test)]
 mod runs;

@@ -4,13 +4,13 @@ use crate::parts::{Parts, joined};
 use std::alloc::{AllocError, Global};
 use std::process::Abort;
 use std::test::Fail;
-use wac_excerpts::{Paint, excerpt, push_shown};
+use wac_excerpts::{Paint, excerpt, push_carets, push_escaped, push_shown, push_shown_lines};
 use wac_positions::Lines;
 
 /// A text, an offset and a length in it, how marks are painted, and what is shown.
 type Row = (&'static str, usize, usize, Paint, &'static str);
 
-static ROWS: [Row; 23] = [
+static ROWS: [Row; 24] = [
     // A tab takes four columns.
     (
         "a\n\tlet x = y;\n",
@@ -42,6 +42,14 @@ static ROWS: [Row; 23] = [
         1,
         Paint::Plain,
         "1 | a\u{fffd}[31m\u{fffd}b\n  |        ^\n",
+    ),
+    // A mark of a direction and a separator of lines.
+    (
+        "a\u{200e}\u{2028}b",
+        7,
+        1,
+        Paint::Plain,
+        "1 | a\u{fffd}\u{fffd}b\n  |    ^\n",
     ),
     // A byte order mark, of which a terminal shows nothing.
     (
@@ -240,11 +248,45 @@ fn places_are_shown(rt: HostRuntime) -> Result<(), Fail> {
     Ok(())
 }
 
+/// Characters before which and after which nothing is a command, and between them each end of a range of commands.
+const COMMANDS: &str =
+    " \u{0}\u{1f}~\u{7f}\u{9f}\u{a0}\u{61b}\u{61c}\u{61d}\u{200b}\u{200e}\u{200f}\u{2010}\
+    \u{2027}\u{2028}\u{202e}\u{202f}\u{2065}\u{2066}\u{2069}\u{206a}\u{fefe}\u{feff}\u{ff00}";
+
+#[test]
+fn commands_are_shown(rt: HostRuntime) -> Result<(), Fail> {
+    let mut out = String::from_str(rt.alloc(), "> ")?;
+    push_shown(&mut out, COMMANDS)?;
+    let shown =
+        ">  \u{fffd}\u{fffd}~\u{fffd}\u{fffd}\u{a0}\u{61b}\u{fffd}\u{61d}\u{200b}\u{fffd}\u{fffd}\u{2010}\
+        \u{2027}\u{fffd}\u{fffd}\u{202f}\u{2065}\u{fffd}\u{fffd}\u{206a}\u{fefe}\u{fffd}\u{ff00}";
+    assert!(rt; out.as_str() == shown, "{out:?}");
+    Ok(())
+}
+
+#[test]
+fn commands_are_escaped(rt: HostRuntime) -> Result<(), Fail> {
+    let mut out = String::from_str(rt.alloc(), "> ")?;
+    push_escaped(&mut out, "é\u{0}\u{7f}\u{9b}\u{61c}\u{200e}\u{feff}\n")?;
+    let escaped = "> é\\u0000\\u007f\\u009b\\u061c\\u200e\\ufeff\\u000a";
+    assert!(rt; out.as_str() == escaped, "{out:?}");
+    Ok(())
+}
+
 #[test]
 fn texts_without_commands(rt: HostRuntime) -> Result<(), Fail> {
+    let text = "a\tb\n\r\u{7f}\u{85}\u{2066}é\u{200b}";
     let mut out = String::from_str(rt.alloc(), "> ")?;
-    push_shown(&mut out, "a\tb\n\u{7f}\u{85}\u{2066}é\u{200b}")?;
-    let shown = "> a\u{fffd}b\u{fffd}\u{fffd}\u{fffd}\u{fffd}é\u{200b}";
+    push_shown(&mut out, text)?;
+    let shown = "> a\u{fffd}b\u{fffd}\u{fffd}\u{fffd}\u{fffd}\u{fffd}é\u{200b}";
+    assert!(rt; out.as_str() == shown, "{out:?}");
+    let mut out = String::from_str(rt.alloc(), "> ")?;
+    push_shown_lines(&mut out, text)?;
+    let shown = "> a\u{fffd}b\n\u{fffd}\u{fffd}\u{fffd}\u{fffd}é\u{200b}";
+    assert!(rt; out.as_str() == shown, "{out:?}");
+    let mut out = String::from_str(rt.alloc(), "> ")?;
+    push_carets(&mut out, text)?;
+    let shown = "> a\tb\n^M^?M-BM-^EM-bM-^AM-&é\u{200b}";
     assert!(rt; out.as_str() == shown, "{out:?}");
     Ok(())
 }

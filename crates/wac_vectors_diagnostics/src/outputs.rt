@@ -29,7 +29,7 @@ enum Told {
 /// What is told, the form and the name of the file, and the output.
 type Row = (Told, Form, &'static str, &'static str);
 
-static ROWS: [Row; 11] = [
+static ROWS: [Row; 13] = [
     (
         Told::Full,
         Form::Plain,
@@ -99,6 +99,20 @@ static ROWS: [Row; 11] = [
         "::error file=a%2Cb%3Ac%25%0D%0A.wac,line=2,col=14,endLine=2,endColumn=15,\
         title=wac%3A%3Aduplicate-name::`x` is \"100%25\" defined%0Ahelp: rename%0Aone\
         %0Anote: 1:5: it is defined here",
+    ),
+    // The library writes a name in JSON as it is; what shows it to people escapes it.
+    (
+        Told::Bare,
+        Form::Json,
+        "a\u{7f}\u{202e}.wac",
+        "{\"file\":\"a\u{7f}\u{202e}.wac\",\"offset\":null,\"length\":null,\"line\":null,\"column\":null,\"end\":null,\
+        \"severity\":\"warning\",\"code\":\"wac::odd\",\"message\":\"odd\",\"help\":null,\"notes\":[]}",
+    ),
+    (
+        Told::Bare,
+        Form::Github,
+        "a\t\u{1b}\u{9b}\u{200f}.wac",
+        "::warning file=a\u{fffd}\u{fffd}\u{fffd}\u{fffd}.wac,title=wac%3A%3Aodd::odd",
     ),
     (
         Told::Bare,

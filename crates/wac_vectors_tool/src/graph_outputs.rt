@@ -53,21 +53,18 @@ fn picture(alloc: Global, graph: &CompositionGraph) -> Result<Picture, AllocErro
 }
 
 /// Whether the lines of the graph come first, and then what is left open.
-fn are_lines(lines: &[u8]) -> bool {
-    match str::from_utf8(lines) {
-        Ok(lines) => match lines.strip_prefix(LINES) {
-            Some(rest) => rest == OPEN,
-            None => false,
-        },
-        Err(_) => false,
+fn are_lines(lines: &str) -> bool {
+    match lines.strip_prefix(LINES) {
+        Some(rest) => rest == OPEN,
+        None => false,
     }
 }
 
 /// Asserts what is shown in each form.
 fn is_shown(rt: &impl Abort, alloc: Global, graph: &CompositionGraph) -> Result<(), AllocError> {
     let picture = picture(alloc, graph)?;
-    let lines = text(alloc, graph, &picture)?;
-    assert!(rt; are_lines(lines.as_slice()), "other lines");
+    let found = text(alloc, &picture)?;
+    assert!(rt; are_lines(found.as_str()), "{found}");
     let found = json(alloc, &picture)?;
     assert!(rt; found.as_str() == JSON, "{found}");
     let found = dot(alloc, &picture)?;

@@ -1,6 +1,7 @@
 // The words of the command line.
 use std::alloc::{AllocError, Global};
 use std::env::{Env, FillError};
+use wac_excerpts::push_shown;
 
 /// The words of the command line.
 ///
@@ -45,6 +46,17 @@ impl Words {
     /// The words, the program's name first.
     pub(crate) fn texts(&self) -> &[String] {
         self.texts.as_slice()
+    }
+
+    /// The words as they are shown: with U+FFFD for what a terminal could take for a command.
+    pub(crate) fn shown(&self, alloc: Global) -> Result<Vec<String>, AllocError> {
+        let mut all = Vec::with_capacity(alloc, self.texts.len())?;
+        for text in self.texts.as_slice() {
+            let mut shown = String::new(alloc);
+            push_shown(&mut shown, text.as_str())?;
+            all.push(shown)?;
+        }
+        Ok(all)
     }
 
     /// Whether a word may stand for one that is not UTF-8.

@@ -84,6 +84,7 @@ fn word(error: &DeclarationError) -> &'static str {
         DeclarationError::DeclaredTwice(_) => "declared twice",
         DeclarationError::UnknownPackage(_) => "unknown package",
         DeclarationError::Cycle(_) => "cycle",
+        DeclarationError::TooLarge(_) => "too large",
         DeclarationError::Resolution(_) => "resolution",
         DeclarationError::Parts(_) => "parts",
         DeclarationError::Unmade => "unmade",

@@ -1,5 +1,5 @@
 use Rattle.std.proofs.Common.{◌≡◌}
-use Rattle.wac_component_packages.proofs.reading.all_files.Given as goal
+use Rattle.wac_component_packages.proofs.reading.read_sources.Given as goal
 
-abbrev pub invariant-loop-path : goal.invariant-loop-path
-invariant-loop-path g l = g.F.FileSystem.replaced l.files ≡ g.F.FileSystem.replaced l.fn.files
+abbrev pub invariant-loop-source : goal.invariant-loop-source
+invariant-loop-source g l = g.F.FileSystem.replaced l.files ≡ g.F.FileSystem.replaced l.fn.files

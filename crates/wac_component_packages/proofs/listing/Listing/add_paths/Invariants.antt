@@ -1,0 +1,5 @@
+use Rattle.std.proofs.Common.{◌≡◌}
+use Rattle.wac_component_packages.proofs.listing.Listing.add_paths.Given as goal
+
+abbrev pub invariant-loop-path : goal.invariant-loop-path
+invariant-loop-path g l = g.F.FileSystem.replaced l.files ≡ g.F.FileSystem.replaced l.fn.files
