@@ -5,6 +5,7 @@
 //! them; `docs/PACKAGES.md` says how, and where they are found. [`show_package`] is `wacx package`.
 #![tactic(auto)]
 
+mod agreeing;
 mod checking;
 mod declarations;
 mod errors;

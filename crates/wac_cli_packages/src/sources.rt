@@ -162,6 +162,23 @@ impl Sources {
         }
     }
 
+    /// Notes that the document at a place declares a package.
+    pub(crate) fn note_place(&mut self, place: &str) {
+        for origin in self.origins.as_mut_slice() {
+            if origin.place.as_str() == place {
+                origin.is_declared = true;
+            }
+        }
+    }
+
+    /// The text of a document, by its number.
+    pub(crate) fn text(&self, number: usize) -> &str {
+        match self.texts.get(number) {
+            Some(text) => text.as_str(),
+            None => "",
+        }
+    }
+
     /// The documents.
     pub(crate) fn all(&self, alloc: Global) -> Result<Vec<&str>, AllocError> {
         let mut all = Vec::with_capacity(alloc, self.texts.len())?;

@@ -1,8 +1,9 @@
 // The packages of files, declared by documents or read from components, and what is wrong with these files.
 ghost use Rattle.std.specs.Prelude.{◌≡◌};
 
+use crate::agreeing::{Agreement, agreement};
 use crate::declarations::{declare, declared_faults};
-use crate::faults::{PackageFault, is_text_of};
+use crate::faults::{Cause, PackageFault, is_text_of};
 use crate::options::{Context, Given};
 use crate::sources::{Sources, read_sources};
 use std::alloc::{AllocError, Global};
@@ -286,12 +287,53 @@ impl Supply {
         for path in paths {
             self.searched.push(String::from_str(alloc, path)?)?;
         }
-        let mut faults = declared_faults(alloc, &self.sources, &self.declared)?;
-        self.sources.faults.append(&mut faults)?;
+        let faults = declared_faults(alloc, &self.sources, &self.declared)?;
+        self.add_declared(alloc, given, faults)?;
         self.sources
             .faults
             .retain(|fault| !is_lost(fault, given.components));
         Ok(())
+    }
+
+    /// Adds what is wrong with documents. Two of a package may agree.
+    fn add_declared(
+        &mut self,
+        alloc: Global,
+        given: Given<'_>,
+        faults: Vec<PackageFault>,
+    ) -> Result<(), AllocError> {
+        for mut fault in faults {
+            match self.agreement(alloc, given, &fault) {
+                Ok(Agreement::Nothing) => self.sources.faults.push(fault)?,
+                Ok(Agreement::Same) => self.sources.note_place(fault.place.as_str()),
+                Ok(Agreement::Differs(diagnostic)) => {
+                    fault.cause = Cause::Conflict(diagnostic);
+                    self.sources.faults.push(fault)?;
+                }
+                Err(_) => return Err(AllocError),
+            }
+        }
+        Ok(())
+    }
+
+    /// What the document of a fault is beside an earlier one of its package, if the two may agree.
+    fn agreement(
+        &self,
+        alloc: Global,
+        given: Given<'_>,
+        fault: &PackageFault,
+    ) -> Result<Agreement, AllocError> {
+        match (&fault.cause, &fault.key) {
+            (Cause::DeclaredTwice(number), Some(key)) if given.may_agree => {
+                let text = match self.declared.faults.get(*number) {
+                    Some(fault) => self.sources.text(fault.text),
+                    None => "",
+                };
+                let known = self.context(alloc, given.report).known;
+                agreement(alloc, known, given.worlds, key, text)
+            }
+            _ => Ok(Agreement::Nothing),
+        }
     }
 
     /// What is known with these packages.

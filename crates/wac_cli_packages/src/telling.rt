@@ -14,14 +14,6 @@ use wac_lexer::SourceSpan;
 use wac_package_errors::declaration_diagnostic;
 use wac_package_names::push_key;
 
-/// A text by its number.
-fn text_at(texts: &[String], number: usize) -> &str {
-    match texts.get(number) {
-        Some(text) => text.as_str(),
-        None => "",
-    }
-}
-
 /// Whether the package of a fault is one of these.
 fn is_of(fault: &PackageFault, packages: &IndexMap<PackageKey, ()>) -> bool {
     match &fault.key {
@@ -138,7 +130,7 @@ impl Supply {
                 None => break,
             };
             if let Some(number) = number {
-                let text = text_at(self.sources.texts.as_slice(), number);
+                let text = self.sources.text(number);
                 self.reach(alloc, tally, &mut reached, mentioned_in(alloc, text)?)?;
             }
         }
@@ -273,7 +265,7 @@ impl Supply {
         let Some(fault) = self.declared.faults.get(number) else {
             return Ok(Outcome::Good);
         };
-        let text = text_at(self.sources.texts.as_slice(), fault.text);
+        let text = self.sources.text(fault.text);
         let diagnostic = declaration_diagnostic(context.alloc, text, &fault.error, context.known)?;
         let file = SourceFile {
             path,

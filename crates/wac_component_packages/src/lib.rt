@@ -16,4 +16,4 @@ pub use folders::{default_folders, folder_of};
 pub use keys::is_component_file;
 pub use listing::{ComponentSource, place_of};
 pub use reading::{Components, Sought, read_components};
-pub use supplying::{Added, Precedence, Supplied, supply_components};
+pub use supplying::{Added, Precedence, Supplied, disagreement, supply_components};

@@ -224,7 +224,7 @@ fn declared(alloc: Global, key: &str, name: &str) -> Result<Diagnostic, AllocErr
 }
 
 /// Where a decoded package differs from another one. Of that the key, the file, and what the file does with it are told.
-pub(crate) fn disagreement(
+pub fn disagreement(
     alloc: Global,
     told: (&str, &str, &str),
     decoded: &Package,

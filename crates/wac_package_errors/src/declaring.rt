@@ -11,6 +11,7 @@ use wac_declared_packages::DeclarationError;
 use wac_diagnostics::Diagnostic;
 use wac_first_error::{parse_code, resolution_code, resolution_diagnostic};
 use wac_lexer::SourceSpan;
+use wac_package_names::key_named;
 use wac_printer::Page;
 use wac_resolution::packages;
 use wac_resolution_errors::Error;
@@ -40,9 +41,10 @@ fn help_for(error: &DeclarationError) -> Option<&'static str> {
         ),
         DeclarationError::Targets(_) => Some("remove it: a declaration composes nothing"),
         DeclarationError::NoSuchWorld(_) => Some("name one of its worlds by --world"),
-        DeclarationError::DeclaredTwice(_) => Some("remove one of the two documents"),
         DeclarationError::Cycle(_) => Some("move what both need into a package of its own"),
-        DeclarationError::TooLarge(_) => Some("let packages mention fewer of those that mention others"),
+        DeclarationError::TooLarge(_) => Some(
+            "let packages mention fewer of those that mention others",
+        ),
         _ => None,
     }
 }
@@ -61,6 +63,21 @@ fn own_diagnostic(alloc: Global, error: &DeclarationError) -> Result<Diagnostic,
 fn own_with_help(alloc: Global, error: &DeclarationError) -> Result<Diagnostic, AllocError> {
     let mut diagnostic = own_diagnostic(alloc, error)?;
     diagnostic.help = copied(alloc, help_for(error))?;
+    Ok(diagnostic)
+}
+
+/// What is said of a text whose package an earlier one declares. The help names the document of that.
+fn declared_twice(
+    alloc: Global,
+    text: &str,
+    error: &DeclarationError,
+    place: SourceSpan,
+    known: KnownPackages<'_>,
+) -> Result<Diagnostic, AllocError> {
+    let mut diagnostic = own_diagnostic(alloc, error)?;
+    let key = key_named(alloc, text_at(text, place))?;
+    let name = known.document_of(&key).unwrap_or("another one");
+    diagnostic.help = Some(format!(in alloc; "{name} declares it too: leave out one of the two")?);
     Ok(diagnostic)
 }
 
@@ -176,6 +193,9 @@ pub fn declaration_diagnostic(
         DeclarationError::Syntax(error) => syntax_diagnostic(alloc, text, error),
         DeclarationError::Resolution(error) => resolving_diagnostic(alloc, text, error, known),
         DeclarationError::UnknownPackage(place) => unknown_package(alloc, text, *place, known),
+        DeclarationError::DeclaredTwice(place) => {
+            declared_twice(alloc, text, error, *place, known)
+        }
         DeclarationError::Memory(_) => Err(AllocError),
         _ => own_with_help(alloc, error),
     }

@@ -232,7 +232,7 @@ fn has_twice(pairs: &[(&str, &str)]) -> bool {
         let (name, _) = pairs[place];
         if pairs
             .iter()
-            .skip(place + 1)
+            .skip(place.saturating_add(1))
             .any(|(other, _)| *other == name)
         {
             return true;
