@@ -6,9 +6,31 @@ use std::alloc::{AllocError, Global};
 use wac_diagnostics::Diagnostic;
 use wac_graph_outputs::OpenImport;
 
-/// Whether two names differ in case alone.
-fn differ_in_case(a: &str, b: &str) -> bool {
-    a != b && a.eq_ignore_ascii_case(b)
+/// The names that were met, each by its form in lower case.
+#[derive(Drop)]
+struct Names<'n> {
+    first: IndexMap<String, &'n str>,
+}
+
+impl<'n> Names<'n> {
+    fn new(alloc: Global) -> Self {
+        Names {
+            first: IndexMap::new(alloc),
+        }
+    }
+
+    /// The name that was met before and differs in case alone. One that has none is noted.
+    fn earlier(&mut self, alloc: Global, name: &'n str) -> Result<Option<&'n str>, AllocError> {
+        let form = name.to_ascii_lowercase(alloc)?;
+        match self.first.get(form.as_str()).copied() {
+            Some(earlier) if earlier == name => Ok(None),
+            Some(earlier) => Ok(Some(earlier)),
+            None => {
+                self.first.insert(form, name)?;
+                Ok(None)
+            }
+        }
+    }
 }
 
 /// Appends what is said of two names that differ in case alone.
@@ -32,25 +54,13 @@ pub(crate) fn push_import_cases(
     found: &mut Vec<Diagnostic>,
     imports: &IndexMap<String, OpenImport>,
 ) -> Result<(), AllocError> {
+    let mut names = Names::new(alloc);
     for (name, _) in imports.iter() {
-        if let Some(earlier) = earlier_import(imports, name.as_str()) {
+        if let Some(earlier) = names.earlier(alloc, name.as_str())? {
             push_case(alloc, found, "imports", earlier, name.as_str())?;
         }
     }
     Ok(())
-}
-
-/// An imported name before a name that differs from it in case alone.
-fn earlier_import<'i>(imports: &'i IndexMap<String, OpenImport>, name: &str) -> Option<&'i str> {
-    for (other, _) in imports.iter() {
-        if other.as_str() == name {
-            return None;
-        }
-        if differ_in_case(other.as_str(), name) {
-            return Some(other.as_str());
-        }
-    }
-    None
 }
 
 /// Appends a warning for each exported name that differs in case alone from an earlier one.
@@ -59,23 +69,11 @@ pub(crate) fn push_export_cases(
     found: &mut Vec<Diagnostic>,
     exports: &[(String, usize)],
 ) -> Result<(), AllocError> {
+    let mut names = Names::new(alloc);
     for (name, _) in exports {
-        if let Some(earlier) = earlier_export(exports, name.as_str()) {
+        if let Some(earlier) = names.earlier(alloc, name.as_str())? {
             push_case(alloc, found, "exports", earlier, name.as_str())?;
         }
     }
     Ok(())
-}
-
-/// An exported name before a name that differs from it in case alone.
-fn earlier_export<'e>(exports: &'e [(String, usize)], name: &str) -> Option<&'e str> {
-    for (other, _) in exports {
-        if other.as_str() == name {
-            return None;
-        }
-        if differ_in_case(other.as_str(), name) {
-            return Some(other.as_str());
-        }
-    }
-    None
 }

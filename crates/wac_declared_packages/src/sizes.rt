@@ -6,7 +6,7 @@ use wac_graph_types::internals::Place;
 use wac_graph_types::{Entry, Types};
 
 /// How large the packages of texts may be together, beside one for each byte of the texts.
-const ROOM: u64 = 500_000;
+const ROOM: u64 = 300_000;
 
 /// How large the packages of texts are, and how large they may be together.
 #[derive(Drop)]

@@ -2,7 +2,8 @@
 //! and writing one so that it is never half written.
 //!
 //! [`FileSystem`] is what a command asks of files. [`Disk`] is the real one; [`MemoryFiles`] holds files in memory, and
-//! its n-th call can be made to fail. [`find_files`] lists the files that a command's paths lead to.
+//! its n-th call can be made to fail. [`find_files`] lists the files that a command's paths lead to, and [`find_all`]
+//! says, too, what it passed over.
 #![tactic(auto)]
 
 mod copies;

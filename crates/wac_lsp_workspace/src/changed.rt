@@ -4,6 +4,7 @@ ghost use Rattle.std.specs.Prelude.{◌≡◌};
 use crate::contents::{
     ComponentPackage, component_of, line_of, may_be_kept, resolved_folders, text_in, too_many,
 };
+use crate::packages::path_below;
 use crate::roots::Root;
 use crate::walk::{is_document, is_passed_over};
 use crate::workspace::{Workspace, is_within};
@@ -71,24 +72,36 @@ pub fn read_files<F: FileSystem>(
     Ok(Some(contents))
 }
 
-/// Whether one of the folders in which a path is, below a folder of the client, is passed over.
-fn is_left_out(folders: &[String], path: &str) -> bool {
-    match folders
-        .iter()
-        .find(|folder| path.starts_with(folder.as_str()))
-    {
-        Some(folder) => {
-            let below = path.get(folder.len()..).unwrap_or("");
-            below.split('/').any(|name| is_passed_over(name))
+/// Whether one of the names in a path is passed over.
+fn has_passed_over(path: &str) -> bool {
+    for name in path.split('/') {
+        if is_passed_over(name) {
+            return true;
         }
-        None => true,
     }
+    false
+}
+
+/// Whether a path is passed over in each folder of the client in which it is.
+fn is_left_out(folders: &[String], path: &str) -> bool {
+    for folder in folders {
+        if let Some(below) = path_below(folder.as_str(), path) {
+            if !has_passed_over(below) {
+                return false;
+            }
+        }
+    }
+    true
 }
 
 /// Whether components may be looked for in a folder of a path.
 fn is_of_packages(path: &str) -> bool {
-    path.split('/')
-        .any(|name| name == "deps" || name == "packages")
+    for name in path.split('/') {
+        if name == "deps" || name == "packages" {
+            return true;
+        }
+    }
+    false
 }
 
 /// The component of a path.

@@ -4,7 +4,7 @@ ghost use Rattle.std.specs.Prelude.{◌≡◌};
 use crate::components::{ShownPackage, shown_packages};
 use crate::kinds::is_declaration;
 use crate::walk::{documents_below, leads_below};
-use crate::workspace::{Workspace, is_within};
+use crate::workspace::{Workspace, is_among, is_within};
 use std::alloc::{AllocError, Global};
 use std::collections::{BTreeMap, BTreeSet};
 use wac_component_packages::{ComponentFile, default_folders, find_components, folder_of};
@@ -191,17 +191,14 @@ fn has_component(components: &[ComponentPackage], key: &str) -> bool {
         .any(|component| component.key.as_str() == key)
 }
 
-/// Whether two lists of folders are the same.
+/// Whether two lists of different folders have the same.
 fn are_same(some: &[String], others: &[String]) -> bool {
-    if some.len() != others.len() {
-        return false;
-    }
-    for (one, other) in some.iter().zip(others) {
-        if one.as_str() != other.as_str() {
+    for folder in some {
+        if !is_among(others, folder.as_str()) {
             return false;
         }
     }
-    true
+    some.len() == others.len()
 }
 
 /// The line that says why a file is passed over. That memory ran out is no fault of the file.

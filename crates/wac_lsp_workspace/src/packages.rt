@@ -198,20 +198,15 @@ fn sorted_packages(
     Ok(sorted)
 }
 
-/// Nothing that is declared.
-fn nothing(alloc: Global) -> Declared {
-    Declared {
-        packages: IndexMap::new(alloc),
-        texts: IndexMap::new(alloc),
-        faults: Vec::new(alloc),
-    }
-}
-
 impl Packages {
     /// No packages.
     pub(crate) fn none(alloc: Global) -> Packages {
         Packages {
-            declared: nothing(alloc),
+            declared: Declared {
+                packages: IndexMap::new(alloc),
+                texts: IndexMap::new(alloc),
+                faults: Vec::new(alloc),
+            },
             names: Vec::new(alloc),
             components: 0,
             searched: Vec::new(alloc),
@@ -263,14 +258,11 @@ impl Packages {
         sources: &[Source],
         concerned: &Concerned,
     ) -> Result<(), AllocError> {
-        let declared = std::mem::replace(&mut self.declared, nothing(alloc));
-        let Declared {
-            packages,
-            texts,
-            faults,
-        } = declared;
+        let packages = std::mem::replace(&mut self.declared.packages, IndexMap::new(alloc));
         self.declared.packages = packages_left(alloc, packages, concerned)?;
+        let texts = std::mem::replace(&mut self.declared.texts, IndexMap::new(alloc));
         self.declared.texts = texts_left(alloc, texts, concerned)?;
+        let faults = std::mem::replace(&mut self.declared.faults, Vec::new(alloc));
         self.declared.faults = faults_left(alloc, faults, sources, concerned)?;
         Ok(())
     }

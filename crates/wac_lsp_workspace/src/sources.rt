@@ -240,7 +240,7 @@ pub(crate) fn with_mentioning(
     sources: &[Source],
     mut concerned: Concerned,
 ) -> Result<Concerned, AllocError> {
-    for _ in 0..=sources.len() {
+    for _ in 0..sources.len() {
         if !add_mentioning(alloc, sources, &mut concerned)? {
             break;
         }
@@ -281,7 +281,7 @@ pub(crate) fn with_mentioned(
     for _ in sources {
         is_done.push(false)?;
     }
-    for _ in 0..=sources.len() {
+    for _ in 0..sources.len() {
         if !add_mentioned(alloc, sources, &mut needed, &mut is_done)? {
             break;
         }

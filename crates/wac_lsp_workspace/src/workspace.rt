@@ -191,7 +191,7 @@ pub(crate) fn is_within(folders: &[String], path: &str) -> bool {
 }
 
 /// Whether a folder is one of some.
-fn is_among(folders: &[String], folder: &str) -> bool {
+pub(crate) fn is_among(folders: &[String], folder: &str) -> bool {
     folders.iter().any(|other| other.as_str() == folder)
 }
 
@@ -433,9 +433,11 @@ impl Workspace {
         path: &str,
         before: Option<String>,
     ) -> Result<(), AllocError> {
-        let now = self.own(alloc, path)?;
-        for own in before.iter().chain(now.iter()) {
-            self.pending.add(alloc, own.as_str())?;
+        if let Some(before) = &before {
+            self.pending.add(alloc, before.as_str())?;
+        }
+        if let Some(now) = declared_by(self.sources.as_slice(), path) {
+            self.pending.add(alloc, now)?;
         }
         Ok(())
     }

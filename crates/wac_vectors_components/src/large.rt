@@ -21,7 +21,7 @@ const BLOCKS: u32 = 2560;
 const FEW_BYTES: Limits = Limits {
     depth: 100,
     size: 100,
-    work: 50,
+    work: 100,
 };
 
 /// A component with a core module of ten megabytes.

@@ -1,6 +1,6 @@
 use Rattle.std.proofs.Common.{◌≡◌, []}
 use Rattle.wac_lsp.specs.Replies.{AreReplies, replies}
-use Rattle.wac_lsp_sessions.proofs.session.Session.take.Given as goal
+use Rattle.wac_lsp_sessions.proofs.session.Session.told.Given as goal
 
 abbrev pub invariant-loop-line : goal.invariant-loop-line
 invariant-loop-line l = record {
