@@ -23,7 +23,7 @@ pub(crate) enum Agreement {
 }
 
 /// What a text is that declares the package of an earlier document.
-pub(crate) fn agreement(
+pub(crate) fn compared(
     alloc: Global,
     known: KnownPackages<'_>,
     worlds: &[(&str, &str)],

@@ -1,7 +1,7 @@
 // The packages of files, declared by documents or read from components, and what is wrong with these files.
 ghost use Rattle.std.specs.Prelude.{◌≡◌};
 
-use crate::agreeing::{Agreement, agreement};
+use crate::agreeing::{Agreement, compared};
 use crate::declarations::{declare, declared_faults};
 use crate::faults::{Cause, PackageFault, is_text_of};
 use crate::options::{Context, Given};
@@ -303,7 +303,7 @@ impl Supply {
         faults: Vec<PackageFault>,
     ) -> Result<(), AllocError> {
         for mut fault in faults {
-            match self.agreement(alloc, given, &fault) {
+            match self.beside_earlier(alloc, given, &fault) {
                 Ok(Agreement::Nothing) => self.sources.faults.push(fault)?,
                 Ok(Agreement::Same) => self.sources.note_place(fault.place.as_str()),
                 Ok(Agreement::Differs(diagnostic)) => {
@@ -317,7 +317,7 @@ impl Supply {
     }
 
     /// What the document of a fault is beside an earlier one of its package, if the two may agree.
-    fn agreement(
+    fn beside_earlier(
         &self,
         alloc: Global,
         given: Given<'_>,
@@ -330,7 +330,7 @@ impl Supply {
                     None => "",
                 };
                 let known = self.context(alloc, given.report).known;
-                agreement(alloc, known, given.worlds, key, text)
+                compared(alloc, known, given.worlds, key, text)
             }
             _ => Ok(Agreement::Nothing),
         }
