@@ -6,6 +6,7 @@ use crate::names::{is_hidden, is_wac, join};
 use crate::system::{FileSystem, Kind};
 use std::alloc::{AllocError, Global};
 use std::collections::BTreeSet;
+use std::io::ErrorKind;
 use std::mem;
 
 /// A path that a command has to do, or why it can't.
@@ -296,6 +297,8 @@ fn kind_of<F: FileSystem>(
             Ok(Kind::File) => Ok(Some(Kind::Link)),
             Ok(Kind::Folder) => Ok(None),
             Ok(Kind::Link | Kind::Other) | Err(FileError::NotFound) => Ok(Some(Kind::Other)),
+            // A link that leads to itself.
+            Err(FileError::System(ErrorKind::FilesystemLoop)) => Ok(Some(Kind::Other)),
             Err(error) => Err(error),
         },
         Kind::Other if is_wac(path.as_bytes()) => Ok(Some(Kind::Other)),
