@@ -1,2 +1,4 @@
 pub mod Clamping
 pub mod Following
+pub mod Placing
+pub mod Starting

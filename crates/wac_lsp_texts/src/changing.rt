@@ -2,10 +2,11 @@
 ghost use Rattle.std.specs.Prelude.{◌≡◌, IfOk, IfSome, Some, string_bytes};
 ghost use Rattle.wac_lsp_texts.specs.Changed.{Changes, ChangesOnce, Replaces, spliced};
 
-use crate::offsets::offset_at;
+use crate::finding::offset_from;
+use crate::starts::first_line;
 use std::alloc::{AllocError, Global};
 use wac_lsp_messages::{Change, Range};
-use wac_positions::{ColumnUnit, Lines};
+use wac_positions::ColumnUnit;
 
 /// Why a text could not be changed.
 #[derive(Clone, Copy, Debug, Drop, PartialEq, Eq)]
@@ -22,46 +23,30 @@ impl From<AllocError> for ChangeError {
     }
 }
 
-/// A text with what is between two offsets replaced.
-fn spliced(
-    alloc: Global,
-    text: &str,
-    from: usize,
-    to: usize,
-    new: &str,
-) -> Result<Option<String>, AllocError>
-    ensures { IfOk result (λ found. IfSome found (λ after. string_bytes after ≡ spliced text.now from to new.now)) }
+/// A text with what is between two offsets replaced, in place where there is room.
+fn spliced(text: String, from: usize, to: usize, new: &str) -> Result<Option<String>, AllocError>
+    ensures { IfOk result (λ found. IfSome found (λ after. string_bytes after ≡ spliced (string_bytes text) from to new.now)) }
 {
     let to = from.max(to);
     if !text.is_char_boundary(from) || !text.is_char_boundary(to) {
         return Ok(None);
     }
-    let (before, _) = text.split_at(from);
-    let (_, rest) = text.split_at(to);
-    let mut after = String::from_str(alloc, before)?;
-    after.push_str(new)?;
-    after.push_str(rest)?;
+    let mut after = text;
+    after.replace_range(from..to, new)?;
     Ok(Some(after))
 }
 
 /// A text with a range of it replaced.
-fn replaced(
-    alloc: Global,
-    text: &str,
-    range: Range,
-    new: &str,
-    unit: ColumnUnit,
-) -> Result<String, ChangeError>
-    ensures { IfOk result (λ after. Replaces unit text.now (Some range) new.now (string_bytes after)) }
+fn replaced(text: String, range: Range, new: &str, unit: ColumnUnit) -> Result<String, ChangeError>
+    ensures { IfOk result (λ after. Replaces unit (string_bytes text) (Some range) new.now (string_bytes after)) }
 {
-    let lines = Lines::new(alloc, text)?;
-    let Some(from) = offset_at(&lines, text.len(), range.start, unit) else {
+    let Some((from, line)) = offset_from(text.as_str(), first_line(), range.start, unit) else {
         return Err(ChangeError::NoPlace);
     };
-    let Some(to) = offset_at(&lines, text.len(), range.end, unit) else {
+    let Some((to, _)) = offset_from(text.as_str(), line, range.end, unit) else {
         return Err(ChangeError::NoPlace);
     };
-    match spliced(alloc, text, from, to, new)? {
+    match spliced(text, from, to, new)? {
         Some(after) => Ok(after),
         None => Err(ChangeError::NoPlace),
     }
@@ -70,14 +55,14 @@ fn replaced(
 /// A text after one change.
 fn changed_once(
     alloc: Global,
-    text: &str,
+    text: String,
     change: &Change,
     unit: ColumnUnit,
 ) -> Result<String, ChangeError>
-    ensures { IfOk result (λ after. ChangesOnce unit text.now change.now (string_bytes after)) }
+    ensures { IfOk result (λ after. ChangesOnce unit (string_bytes text) change.now (string_bytes after)) }
 {
     match change.range {
-        Some(range) => replaced(alloc, text, range, change.text.as_str(), unit),
+        Some(range) => replaced(text, range, change.text.as_str(), unit),
         None => match String::from_str(alloc, change.text.as_str()) {
             Ok(after) => Ok(after),
             Err(_) => Err(ChangeError::Memory),
@@ -85,8 +70,8 @@ fn changed_once(
     }
 }
 
-/// The text after changes, each of what the one before leaves. It takes the memory of two texts, and the time of going
-/// over one for each change.
+/// The text after changes, each of what the one before leaves. For each change the text before its end is searched once
+/// for the ends of lines, and what follows it is moved. It takes the memory of one text, and of two while that grows.
 pub fn changed(
     alloc: Global,
     text: &str,
@@ -97,7 +82,7 @@ pub fn changed(
 {
     let mut after = String::from_str(alloc, text)?;
     for change in changes {
-        after = changed_once(alloc, after.as_str(), change, unit)?;
+        after = changed_once(alloc, after, change, unit)?;
     }
     Ok(after)
 }
