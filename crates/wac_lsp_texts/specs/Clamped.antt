@@ -15,6 +15,10 @@ pub record IsClampedColumn (unit : ColumnUnit) (line : List ℕ) (column clamped
   pub before : clamped ≤ column
   pub last : (i : ℕ) → at < i → i ≤ length line → IsCharBoundary line i → column < units unit (take i line)
 
+-- this column, at this byte of the line
+abbrev pub IsClampedAt : ColumnUnit → List ℕ → ℕ → ℕ → ℕ → Type 0
+IsClampedAt unit line column clamped at = (c : IsClampedColumn unit line column clamped) × (c.at ≡ at)
+
 -- the offset of a place: in its line, with the column that the line has nearest; or the end of the text, where there is
 -- no such line
 pub record IsClamped (text : List ℕ) (unit : ColumnUnit) (place : Place) (at : ℕ) : Type 0 where

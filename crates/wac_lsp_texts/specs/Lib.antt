@@ -1,2 +1,3 @@
 pub mod Clamped
 pub mod Changed
+pub mod Started

@@ -1,11 +1,14 @@
 //! A text after the changes of an editor.
-ghost use Rattle.std.specs.Prelude.{◌≡◌, IfOk, IfSome, Some, string_bytes};
+ghost use Rattle.std.specs.Prelude.{◌≡◌, ◌≤◌, ℕ, List, IfOk, IfSome, Some, drop, length, string_bytes};
+ghost use Rattle.wac_positions.specs.Lines.{begins_with_line_feed};
+ghost use Rattle.wac_lsp_texts.specs.Started.{Starts};
 ghost use Rattle.wac_lsp_texts.specs.Changed.{Changes, ChangesOnce, Replaces, spliced};
 
-use crate::offsets::offset_at;
+use crate::finding::offset_from;
+use crate::starts::{LineStart, first_line};
 use std::alloc::{AllocError, Global};
 use wac_lsp_messages::{Change, Range};
-use wac_positions::{ColumnUnit, Lines};
+use wac_positions::ColumnUnit;
 
 /// Why a text could not be changed.
 #[derive(Clone, Copy, Debug, Drop, PartialEq, Eq)]
@@ -22,71 +25,101 @@ impl From<AllocError> for ChangeError {
     }
 }
 
-/// A text with what is between two offsets replaced.
-fn spliced(
-    alloc: Global,
-    text: &str,
-    from: usize,
-    to: usize,
-    new: &str,
-) -> Result<Option<String>, AllocError>
-    ensures { IfOk result (λ found. IfSome found (λ after. string_bytes after ≡ spliced text.now from to new.now)) }
+/// A text with what is between two offsets replaced, in place where there is room.
+fn spliced(text: String, from: usize, to: usize, new: &str) -> Result<Option<String>, AllocError>
+    ensures { IfOk result (λ found. IfSome found (λ after. string_bytes after ≡ spliced (string_bytes text) from to new.now)) }
 {
     let to = from.max(to);
     if !text.is_char_boundary(from) || !text.is_char_boundary(to) {
         return Ok(None);
     }
-    let (before, _) = text.split_at(from);
-    let (_, rest) = text.split_at(to);
-    let mut after = String::from_str(alloc, before)?;
-    after.push_str(new)?;
-    after.push_str(rest)?;
+    let mut after = text;
+    after.replace_range(from..to, new)?;
     Ok(Some(after))
+}
+
+/// A text, and the start of one of its lines.
+#[derive(Drop)]
+struct Edited {
+    text: String,
+    line: LineStart,
+}
+
+/// Whether LF begins what follows an offset.
+fn feeds_at(text: &str, at: usize) -> bool
+    requires { at ≤ length text.now }
+    ensures { result ≡ begins_with_line_feed (drop at text.now) }
+{
+    let (_, rest) = text.as_bytes().split_at(at);
+    !rest.is_empty() && rest[0] == b'\n'
+}
+
+/// A line that begins where it did before what follows an offset was replaced; the first one, where that isn't clear.
+#[tactic(auto, using(crate::proofs::Starting::first))]
+fn line_after(after: &str, line: LineStart, from: usize, feeds: bool) -> LineStart
+    ensures { (text new : List ℕ) (to : ℕ) → Starts text line.line line.offset → feeds ≡ begins_with_line_feed (drop line.offset text) → after.now ≡ spliced text from to new → Starts after.now result.line result.offset }
+{
+    if line.offset <= from && line.offset <= after.len() && feeds_at(after, line.offset) == feeds {
+        line
+    } else {
+        first_line()
+    }
 }
 
 /// A text with a range of it replaced.
 fn replaced(
-    alloc: Global,
-    text: &str,
+    edited: Edited,
     range: Range,
     new: &str,
     unit: ColumnUnit,
-) -> Result<String, ChangeError>
-    ensures { IfOk result (λ after. Replaces unit text.now (Some range) new.now (string_bytes after)) }
+) -> Result<Edited, ChangeError>
+    requires { Starts (string_bytes edited.text) edited.line.line edited.line.offset }
+    ensures replaces { IfOk result (λ after. Replaces unit (string_bytes edited.text) (Some range) new.now (string_bytes after.text)) }
+    ensures starts { IfOk result (λ after. Starts (string_bytes after.text) after.line.line after.line.offset) }
 {
-    let lines = Lines::new(alloc, text)?;
-    let Some(from) = offset_at(&lines, text.len(), range.start, unit) else {
+    let Some((from, line)) = offset_from(edited.text.as_str(), edited.line, range.start, unit)
+    else {
         return Err(ChangeError::NoPlace);
     };
-    let Some(to) = offset_at(&lines, text.len(), range.end, unit) else {
+    let Some((to, _)) = offset_from(edited.text.as_str(), line, range.end, unit) else {
         return Err(ChangeError::NoPlace);
     };
-    match spliced(alloc, text, from, to, new)? {
-        Some(after) => Ok(after),
-        None => Err(ChangeError::NoPlace),
-    }
+    let feeds = feeds_at(edited.text.as_str(), line.offset);
+    let Some(text) = spliced(edited.text, from, to, new)? else {
+        return Err(ChangeError::NoPlace);
+    };
+    let line = line_after(text.as_str(), line, from, feeds);
+    Ok(Edited { text, line })
 }
 
 /// A text after one change.
+#[tactic(auto, using(crate::proofs::Starting::first))]
 fn changed_once(
     alloc: Global,
-    text: &str,
+    edited: Edited,
     change: &Change,
     unit: ColumnUnit,
-) -> Result<String, ChangeError>
-    ensures { IfOk result (λ after. ChangesOnce unit text.now change.now (string_bytes after)) }
+) -> Result<Edited, ChangeError>
+    requires { Starts (string_bytes edited.text) edited.line.line edited.line.offset }
+    ensures changes { IfOk result (λ after. ChangesOnce unit (string_bytes edited.text) change.now (string_bytes after.text)) }
+    ensures starts { IfOk result (λ after. Starts (string_bytes after.text) after.line.line after.line.offset) }
 {
     match change.range {
-        Some(range) => replaced(alloc, text, range, change.text.as_str(), unit),
+        Some(range) => replaced(edited, range, change.text.as_str(), unit),
         None => match String::from_str(alloc, change.text.as_str()) {
-            Ok(after) => Ok(after),
+            Ok(text) => Ok(Edited {
+                text,
+                line: first_line(),
+            }),
             Err(_) => Err(ChangeError::Memory),
         },
     }
 }
 
-/// The text after changes, each of what the one before leaves. It takes the memory of two texts, and the time of going
-/// over one for each change.
+/// The text after changes, each of what the one before leaves. For each change the text between its places and those of
+/// the one before is searched for the ends of lines, or all before its end, where it is before them, and what follows
+/// it is moved. It takes the memory of one text, and of two while that grows.
+#[tactic(auto, using(crate::proofs::Starting::first))]
 pub fn changed(
     alloc: Global,
     text: &str,
@@ -95,9 +128,12 @@ pub fn changed(
 ) -> Result<String, ChangeError>
     ensures { IfOk result (λ after. Changes unit text.now changes.now (string_bytes after)) }
 {
-    let mut after = String::from_str(alloc, text)?;
+    let mut after = Edited {
+        text: String::from_str(alloc, text)?,
+        line: first_line(),
+    };
     for change in changes {
-        after = changed_once(alloc, after.as_str(), change, unit)?;
+        after = changed_once(alloc, after, change, unit)?;
     }
-    Ok(after)
+    Ok(after.text)
 }

@@ -1,7 +1,7 @@
 //! Columns of a line.
 ghost use Rattle.std.specs.Prelude.{◌≡◌, ◌≤◌};
 ghost use Rattle.wac_positions.specs.Places.{width};
-ghost use Rattle.wac_lsp_texts.specs.Clamped.{IsClampedColumn};
+ghost use Rattle.wac_lsp_texts.specs.Clamped.{IsClampedAt};
 
 use wac_positions::ColumnUnit;
 
@@ -19,17 +19,38 @@ pub(crate) fn width(unit: ColumnUnit, byte: u8) -> usize
     }
 }
 
-/// The column that a line has nearest to another one, and not after it: that of a character of the line, or of its end.
-pub(crate) fn clamped_column(line: &str, unit: ColumnUnit, column: usize) -> usize
-    ensures { IsClampedColumn unit line.now column result }
+/// A place of a line.
+#[derive(Clone, Copy, Debug, PartialEq, Eq)]
+pub(crate) struct InLine {
+    /// How many bytes of the line are before it.
+    pub(crate) offset: usize,
+    /// How many units of the line are before it.
+    pub(crate) column: usize,
+}
+
+/// The place of a line that is nearest to a column, and not after it: a character of the line begins there, or it ends.
+pub(crate) fn clamped_column(line: &str, unit: ColumnUnit, column: usize) -> InLine
+    ensures { IsClampedAt unit line.now column result.column result.offset }
 {
     let mut count: usize = 0;
-    let mut clamped = 0;
+    let mut clamped = InLine {
+        offset: 0,
+        column: 0,
+    };
     for (at, byte) in line.as_bytes().iter().enumerate() {
         if count <= column && line.is_char_boundary(at) {
-            clamped = count;
+            clamped = InLine {
+                offset: at,
+                column: count,
+            };
         }
         count += width(unit, *byte);
     }
-    if count <= column { count } else { clamped }
+    if count <= column {
+        return InLine {
+            offset: line.len(),
+            column: count,
+        };
+    }
+    clamped
 }

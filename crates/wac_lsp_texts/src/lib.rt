@@ -7,8 +7,10 @@
 
 mod changing;
 mod columns;
+mod finding;
 mod offsets;
 mod places;
+mod starts;
 
 pub use changing::{ChangeError, changed};
 pub use offsets::offset_at;

@@ -15,7 +15,7 @@ pub fn offset_at(lines: &Lines<'_>, len: usize, place: Place, unit: ColumnUnit) 
     if lines.count() <= place.line {
         return Some(len);
     }
-    let column = clamped_column(lines.line(place.line), unit, place.column);
+    let column = clamped_column(lines.line(place.line), unit, place.column).column;
     lines.offset(
         Place {
             line: place.line,

@@ -7,5 +7,5 @@ abbrev pub invariant-loop-at : goal.invariant-loop-at
 invariant-loop-at l = record {
   counted : l.count ≡ units l.unit (take l.at l.line);
   small : l.count ≤ 2 * l.at;
-  best : IsBestBefore l.unit l.line l.column l.at l.clamped;
+  best : IsBestBefore l.unit l.line l.column l.at l.clamped.column l.clamped.offset;
 }
