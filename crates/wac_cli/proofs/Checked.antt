@@ -30,6 +30,10 @@ tidy_no_failure errors.ReadOnly e = cc
 tidy_no_failure errors.NotAFile e = cc
 tidy_no_failure errors.ChangedMeanwhile e = cc
 tidy_no_failure errors.NameNotUtf8 e = cc
+tidy_no_failure errors.NameTooLong e = cc
+tidy_no_failure (errors.TooLarge most) e = cc
+tidy_no_failure (errors.Interrupted kept) e = cc
+tidy_no_failure (errors.HalfWritten kept) e = cc
 tidy_no_failure (errors.System kind) e = cc
 tidy_no_failure errors.OutOfMemory e = cc
 

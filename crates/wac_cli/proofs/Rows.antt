@@ -1,5 +1,5 @@
 -- Reports, computed: of a file that was found and of one that was not.
-use Rattle.wac_cli.proofs.Common.{◌≡◌, ◌∙◌, refl, inl, inr, [], ◌∷◌, Some, None, String, string_bytes, Global, Replacement, Found, Good, Untidy, Rejected, Failed}
+use Rattle.wac_cli.proofs.Common.{◌≡◌, ◌∙◌, refl, inl, inr, [], ◌∷◌, Some, None, false, String, string_bytes, Global, Replacement, Found, Good, Untidy, Rejected, Failed}
 use Rattle.wac_files.specs.declared.error.FileError.TheVariants.{NotFound}
 use Rattle.wac_cli.specs.Checked.{AreChecks}
 use Rattle.wac_cli.specs.Formatted.{ComeTo}
@@ -7,10 +7,10 @@ use Rattle.wac_cli.specs.Replacing.{IsFormatting}
 use Rattle.wac_cli.specs.declared.options.FormatOptions.{FormatOptions}
 
 abbrev there : String Global → Found
-there path = record { path = path; failure = None }
+there path = record { path = path; failure = None; is_link = false }
 
 abbrev missing : String Global → Found
-missing path = record { path = path; failure = Some NotFound }
+missing path = record { path = path; failure = Some NotFound; is_link = false }
 
 -- an outcome each, in order
 fmt_reports_both : (options : FormatOptions) (a b : String Global) → ComeTo options (there a ∷ missing b ∷ []) (Good ∷ Failed ∷ []) [] []

@@ -119,6 +119,21 @@ fn format_path<F: FileSystem, O: Write + Drop, E: Write + Drop>(
     }
 }
 
+/// Reads the file at a path. Before it is written, what runs that ended left beside it is removed.
+fn read_to_format<F: FileSystem>(
+    alloc: Global,
+    files: &mut F,
+    action: Action,
+    path: &str,
+) -> Result<Vec<u8>, FileError>
+    ensures { F.replaced files.new ≡ F.replaced files.old }
+{
+    if action == Action::Write {
+        files.sweep(alloc, path)?;
+    }
+    files.read(alloc, path)
+}
+
 /// Formats the file at a path. Returns what became of it, or why it could not be read or written.
 fn format_file<F: FileSystem, O: Write + Drop, E: Write + Drop>(
     alloc: Global,
@@ -129,10 +144,7 @@ fn format_file<F: FileSystem, O: Write + Drop, E: Write + Drop>(
 ) -> Result<Outcome, FileError>
     ensures { ReturnsOutcome options path.now result (F.replaced files.old) (F.replaced files.new) }
 {
-    if options.action == Action::Write {
-        files.sweep(alloc, path)?;
-    }
-    let bytes = files.read(alloc, path)?;
+    let bytes = read_to_format(alloc, files, options.action, path)?;
     match Plan::of(alloc, bytes.as_slice(), options)? {
         Plan::Tidy => Ok(Outcome::Good),
         Plan::Untidy(text) => {
