@@ -1,5 +1,7 @@
+use denote.Shadow.{shadow}
+use denote.Text.{Utf8}
 use Rattle.std.proofs.Common.{◌≡◌}
 use Rattle.wac_component_packages.proofs.folders.nearest_folders.Given as goal
 
 abbrev pub invariant-loop : goal.invariant-loop
-invariant-loop g l = g.F.FileSystem.replaced l.files ≡ g.F.FileSystem.replaced l.fn.files
+invariant-loop g l = g.F.FileSystem.replaced l.files ≡ g.F.FileSystem.replaced l.fn.files × shadow (Utf8 l.place)
