@@ -1,9 +1,11 @@
 -- A text after the changes of an editor.
-use Rattle.std.specs.Prelude.{◌≡◌, ℕ, max, List, [], ◌∷◌, ◌++◌, take, drop, string_bytes, Option, Some, None}
+use Rattle.std.specs.Prelude.{◌≡◌, ℕ, Bool, max, List, [], ◌∷◌, ◌++◌, take, drop, string_bytes, Option, Some, None}
 use Rattle.wac_positions.specs.declared.place.ColumnUnit.{ColumnUnit}
 use Rattle.wac_lsp_messages.specs.declared.notice.Range.{Range}
 use Rattle.wac_lsp_messages.specs.declared.notice.Change.{Change}
+use Rattle.wac_positions.specs.Lines.{begins_with_line_feed}
 use Rattle.wac_lsp_texts.specs.Clamped.{IsClamped}
+use Rattle.wac_lsp_texts.specs.Started.{Starts}
 
 -- the text with what is between two offsets replaced; nothing is, and the new text comes after the first, where they are
 -- in the other order
@@ -16,6 +18,16 @@ Replaces unit text None new after = after ≡ new
 Replaces unit text (Some range) new after =
     (from : ℕ) × (to : ℕ) × IsClamped text unit range.start from × IsClamped text unit range.end to
     × (after ≡ spliced text from to new)
+
+-- the same of a range
+abbrev pub Edits : ColumnUnit → List ℕ → Range → List ℕ → List ℕ → Type 0
+Edits unit text range new after = Replaces unit text (Some range) new after
+
+-- a line begins here after a replacement from an offset on, if another began there before, and before an LF or not
+abbrev pub StartsAfterSplice : ℕ → ℕ → ℕ → Bool → List ℕ → ℕ → ℕ → Type 0
+StartsAfterSplice line offset from feeds after line_after offset_after =
+    (text new : List ℕ) (to : ℕ) → Starts text line offset → feeds ≡ begins_with_line_feed (drop offset text)
+    → after ≡ spliced text from to new → Starts after line_after offset_after
 
 -- what a change leaves of a text
 abbrev pub ChangesOnce : ColumnUnit → List ℕ → Change → List ℕ → Type 0

@@ -1,8 +1,8 @@
 //! A text after the changes of an editor.
-ghost use Rattle.std.specs.Prelude.{◌≡◌, ◌≤◌, ℕ, List, IfOk, IfSome, Some, drop, length, string_bytes};
+ghost use Rattle.std.specs.Prelude.{◌≡◌, ◌≤◌, IfOk, IfSome, drop, length, string_bytes};
 ghost use Rattle.wac_positions.specs.Lines.{begins_with_line_feed};
 ghost use Rattle.wac_lsp_texts.specs.Started.{Starts};
-ghost use Rattle.wac_lsp_texts.specs.Changed.{Changes, ChangesOnce, Replaces, spliced};
+ghost use Rattle.wac_lsp_texts.specs.Changed.{Changes, ChangesOnce, Edits, StartsAfterSplice, spliced};
 
 use crate::finding::offset_from;
 use crate::starts::{LineStart, first_line};
@@ -27,7 +27,7 @@ impl From<AllocError> for ChangeError {
 
 /// A text with what is between two offsets replaced, in place where there is room.
 fn spliced(text: String, from: usize, to: usize, new: &str) -> Result<Option<String>, AllocError>
-    ensures { IfOk result (λ found. IfSome found (λ after. string_bytes after ≡ spliced (string_bytes text) from to new.now)) }
+    ensures { IfOk result (λ found. IfSome found (λ t. string_bytes t ≡ spliced (string_bytes text) from to new.now)) }
 {
     let to = from.max(to);
     if !text.is_char_boundary(from) || !text.is_char_boundary(to) {
@@ -57,7 +57,7 @@ fn feeds_at(text: &str, at: usize) -> bool
 /// A line that begins where it did before what follows an offset was replaced; the first one, where that isn't clear.
 #[tactic(auto, using(crate::proofs::Starting::first))]
 fn line_after(after: &str, line: LineStart, from: usize, feeds: bool) -> LineStart
-    ensures { (text new : List ℕ) (to : ℕ) → Starts text line.line line.offset → feeds ≡ begins_with_line_feed (drop line.offset text) → after.now ≡ spliced text from to new → Starts after.now result.line result.offset }
+    ensures { StartsAfterSplice line.line line.offset from feeds after.now result.line result.offset }
 {
     if line.offset <= from && line.offset <= after.len() && feeds_at(after, line.offset) == feeds {
         line
@@ -74,7 +74,7 @@ fn replaced(
     unit: ColumnUnit,
 ) -> Result<Edited, ChangeError>
     requires { Starts (string_bytes edited.text) edited.line.line edited.line.offset }
-    ensures replaces { IfOk result (λ after. Replaces unit (string_bytes edited.text) (Some range) new.now (string_bytes after.text)) }
+    ensures replaces { IfOk result (λ e. Edits unit (string_bytes edited.text) range new.now (string_bytes e.text)) }
     ensures starts { IfOk result (λ after. Starts (string_bytes after.text) after.line.line after.line.offset) }
 {
     let Some((from, line)) = offset_from(edited.text.as_str(), edited.line, range.start, unit)
@@ -101,7 +101,7 @@ fn changed_once(
     unit: ColumnUnit,
 ) -> Result<Edited, ChangeError>
     requires { Starts (string_bytes edited.text) edited.line.line edited.line.offset }
-    ensures changes { IfOk result (λ after. ChangesOnce unit (string_bytes edited.text) change.now (string_bytes after.text)) }
+    ensures changes { IfOk result (λ e. ChangesOnce unit (string_bytes edited.text) change.now (string_bytes e.text)) }
     ensures starts { IfOk result (λ after. Starts (string_bytes after.text) after.line.line after.line.offset) }
 {
     match change.range {

@@ -1,9 +1,9 @@
 //! Where a line of a text begins, found from where one before it does.
-ghost use Rattle.std.specs.Prelude.{◌≡◌, ◌≤◌, ◌<◌, ◌+◌, ℕ, true, None, [], ◌∷◌, IfSome, length, drop, slice_index};
+ghost use Rattle.std.specs.Prelude.{◌≡◌, ◌≤◌, ◌<◌, true, None, [], IfSome, length, drop, slice_index};
 ghost use Rattle.std.specs.List.{position_or_len};
 ghost use Rattle.std.specs.Str.{IsCharBoundary};
 ghost use Rattle.wac_positions.specs.Lines.{ends_line, is_line_end, line_starts, starts_after};
-ghost use Rattle.wac_lsp_texts.specs.Started.{Starts};
+ghost use Rattle.wac_lsp_texts.specs.Started.{BeginsWithEnd, IsNextStart, Starts};
 
 use memchr::memchr2;
 
@@ -53,7 +53,7 @@ fn end_len(end: &[u8]) -> usize
     requires { 0 < length end.now → is_line_end (slice_index end.now 0) ≡ true }
     ensures none { result ≡ 0 → end.now ≡ [] }
     ensures within { result ≤ length end.now }
-    ensures some { 0 < result → (at : ℕ) → starts_after at end.now ≡ (at + result) ∷ starts_after (at + result) (drop result end.now) }
+    ensures some { 0 < result → BeginsWithEnd end.now result }
 {
     if end.is_empty() {
         return 0;
@@ -67,7 +67,7 @@ fn end_len(end: &[u8]) -> usize
 fn next_start(text: &[u8], start: usize) -> Option<usize>
     requires { start ≤ length text.now }
     ensures within { IfSome result (λ next. next ≤ length text.now) }
-    ensures some { IfSome result (λ next. starts_after start (drop start text.now) ≡ next ∷ starts_after next (drop next text.now)) }
+    ensures some { IfSome result (λ next. IsNextStart text.now start next) }
     ensures none { result ≡ None → starts_after start (drop start text.now) ≡ [] }
 {
     let (_, rest) = text.split_at(start);
