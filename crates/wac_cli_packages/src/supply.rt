@@ -218,33 +218,72 @@ fn is_lost(fault: &PackageFault, chosen: &[(&str, &str)]) -> bool {
 impl Supply {
     /// The supply with the packages of components.
     fn with_components(
-        mut self,
+        self,
         alloc: Global,
-        components: Components,
+        mut components: Components,
         rule: Precedence,
     ) -> Result<Supply, AllocError> {
-        match self.add(alloc, components, rule) {
-            Ok(()) => Ok(self),
+        let Supply {
+            number,
+            sources,
+            declared,
+            good,
+            searched,
+            mut misplaced,
+        } = self;
+        let Sources {
+            mut names,
+            texts,
+            origins,
+            faults,
+        } = sources;
+        let Declared {
+            mut packages,
+            texts: mut files,
+            faults: rejected,
+        } = declared;
+        let moved = misplaced.append(&mut components.misplaced);
+        let added = {
+            let mut supplied = Supplied {
+                packages: &mut packages,
+                files: &mut files,
+                names: &mut names,
+                rule,
+            };
+            supply_components(alloc, components, &mut supplied)
+        };
+        let sources = Sources {
+            names,
+            texts,
+            origins,
+            faults,
+        };
+        let declared = Declared {
+            packages,
+            texts: files,
+            faults: rejected,
+        };
+        let supply = Supply {
+            number,
+            sources,
+            declared,
+            good,
+            searched,
+            misplaced,
+        };
+        if moved.is_err() {
+            return Err(AllocError);
+        }
+        match added {
+            Ok(added) => supply.with_added(alloc, added),
             Err(_) => Err(AllocError),
         }
     }
 
-    /// Adds the packages of components.
-    fn add(
-        &mut self,
-        alloc: Global,
-        mut components: Components,
-        rule: Precedence,
-    ) -> Result<(), AllocError> {
-        self.misplaced.append(&mut components.misplaced)?;
-        let mut supplied = Supplied {
-            packages: &mut self.declared.packages,
-            files: &mut self.declared.texts,
-            names: &mut self.sources.names,
-            rule,
-        };
-        match supply_components(alloc, components, &mut supplied) {
-            Ok(added) => self.keep(alloc, added),
+    /// The supply with what became of components.
+    fn with_added(mut self, alloc: Global, added: Added) -> Result<Supply, AllocError> {
+        match self.keep(alloc, added) {
+            Ok(()) => Ok(self),
             Err(_) => Err(AllocError),
         }
     }

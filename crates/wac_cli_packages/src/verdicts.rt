@@ -24,15 +24,34 @@ pub(crate) fn first_error_of<O: Write + Drop, E: Write + Drop>(
         supply.tell_mentioned(console, context, tally, bytes)?;
     }
     match first_error_in(context, bytes) {
-        Ok(Composed::Unresolved) => {
-            supply.tell_mentioned(console, context, tally, bytes)?;
-            Ok(Composed::Unresolved)
+        Ok(found) => {
+            match telling_of(&found) {
+                Telling::Mentioned => supply.tell_mentioned(console, context, tally, bytes)?,
+                Telling::Unread => supply.tell_unread(console, context, tally)?,
+                Telling::Nothing => {}
+            }
+            Ok(found)
         }
-        Ok(Composed::Rejected(diagnostic)) if diagnostic.code == UNKNOWN_PACKAGE => {
-            supply.tell_unread(console, context, tally)?;
-            Ok(Composed::Rejected(diagnostic))
-        }
-        found => found,
+        Err(_) => Err(AllocError),
+    }
+}
+
+/// What is told beside the first error of a document.
+#[derive(Clone, Copy)]
+enum Telling {
+    /// What is wrong with the files of packages that it mentions.
+    Mentioned,
+    /// What couldn't be read.
+    Unread,
+    Nothing,
+}
+
+/// What is told beside what a document comes to.
+fn telling_of(found: &Composed) -> Telling {
+    match found {
+        Composed::Unresolved => Telling::Mentioned,
+        Composed::Rejected(diagnostic) if diagnostic.code == UNKNOWN_PACKAGE => Telling::Unread,
+        Composed::Rejected(_) | Composed::Resolved(_) => Telling::Nothing,
     }
 }
 
