@@ -50,8 +50,17 @@ enum Telling {
 fn telling_of(found: &Composed) -> Telling {
     match found {
         Composed::Unresolved => Telling::Mentioned,
-        Composed::Rejected(diagnostic) if diagnostic.code == UNKNOWN_PACKAGE => Telling::Unread,
-        Composed::Rejected(_) | Composed::Resolved(_) => Telling::Nothing,
+        Composed::Rejected(diagnostic) => telling_of_code(diagnostic.code),
+        Composed::Resolved(_) => Telling::Nothing,
+    }
+}
+
+/// What is told beside an error, by its code.
+fn telling_of_code(code: &str) -> Telling {
+    if code == UNKNOWN_PACKAGE {
+        Telling::Unread
+    } else {
+        Telling::Nothing
     }
 }
 
